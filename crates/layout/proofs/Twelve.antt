@@ -1,0 +1,91 @@
+-- The twelve examples of document 01: one table, one statement, over the whole call with W 8 and P 2. A second statement has the readings of the
+-- paper's corners that the twelve don't show. All by computing.
+use Prim.Native.Nat.{ℕ, _-_}
+use Prim.Native.String.{String}
+use mathlib.Core.List.{List, [], _∷_, _++_, map}
+use mathlib.Core.Path.{_≡_, refl}
+use lib.ListN.{length, replicate}
+use Rattle.table.specs.Example.{image, ascii}
+use Rattle.layout.specs.Pages.{pagesOf, bytesOfPages}
+use Rattle.layout.specs.Emboss.{Outcome, embossing, number, place, written, pieces, lines, pages}
+use Rattle.layout.specs.Computing.{computing}
+
+-- ---- A row: the text, the output, and the counts of pieces, lines and pages
+
+record Row : Type 0 where
+  text : String
+  output : List ℕ
+  pieces : ℕ
+  lines : ℕ
+  pages : ℕ
+
+row : String → List ℕ → ℕ → ℕ → ℕ → Row
+row t o n l g = record { text = t; output = o; pieces = n; lines = l; pages = g }
+
+-- what the call hands back: number, place, bytes written, pieces, lines, pages, and the output afterwards
+abbrev Shown : Type 0
+Shown = ℕ × ℕ × ℕ × ℕ × ℕ × ℕ × List ℕ
+
+shown : Outcome → Shown
+shown c = let a = c .answer in (number a, place a, written a, pieces a, lines a, pages a, c .output)
+
+-- the output as lent: some room, filled with a byte that no output has
+abbrev room : ℕ
+room = 24
+
+lent : ℕ → List ℕ
+lent n = replicate n 200
+
+embossed : Row → Shown
+embossed r = shown (embossing image (ascii (r .text)) 8 2 (lent room))
+
+expected : Row → Shown
+expected r = (0, 0, length (r .output), r .pieces, r .lines, r .pages, r .output ++ lent (room - length (r .output)))
+
+-- ---- The twelve
+
+twelve : List Row
+twelve =
+    row "" [] 0 0 0
+    ∷ row "COME" (36 ∷ 17 ∷ 64 ∷ 65 ∷ []) 2 1 1
+    ∷ row "BECOME" (3 ∷ 17 ∷ 9 ∷ 21 ∷ 13 ∷ 17 ∷ 64 ∷ 65 ∷ []) 6 1 1
+    ∷ row "FULFUL" (11 ∷ 37 ∷ 7 ∷ 48 ∷ 7 ∷ 64 ∷ 65 ∷ []) 4 1 1
+    ∷ row "BLIND" (3 ∷ 7 ∷ 64 ∷ 65 ∷ []) 1 1 1
+    ∷ row "BLINDED" (3 ∷ 7 ∷ 10 ∷ 29 ∷ 25 ∷ 17 ∷ 25 ∷ 64 ∷ 65 ∷ []) 7 1 1
+    ∷ row "A.   B" (1 ∷ 50 ∷ 0 ∷ 3 ∷ 64 ∷ 65 ∷ []) 5 1 1
+    ∷ row "AAAA AAA" (1 ∷ 1 ∷ 1 ∷ 1 ∷ 0 ∷ 1 ∷ 1 ∷ 1 ∷ 64 ∷ 65 ∷ []) 8 1 1
+    ∷ row "AAAA AAAA" (1 ∷ 1 ∷ 1 ∷ 1 ∷ 64 ∷ 1 ∷ 1 ∷ 1 ∷ 1 ∷ 64 ∷ 65 ∷ []) 9 2 1
+    ∷ row "A$S$SB" (1 ∷ 64 ∷ 64 ∷ 65 ∷ 3 ∷ 64 ∷ 65 ∷ []) 4 3 2
+    ∷ row "$PA" (0 ∷ 0 ∷ 1 ∷ 64 ∷ 65 ∷ []) 2 1 1
+    ∷ row "$N$N" [] 2 0 0 ∷ []
+
+twelve-embossed : map embossed twelve ≡ map expected twelve
+unfolding computing row shown lent embossed expected twelve
+twelve-embossed = refl
+
+-- ---- Corners: bars before blanks; a line feed at the end is a character; 99 ends no word; 71 where ending the line fills the page; 72 through 73,
+-- spent on the first part, twice in a row; a word of exactly two lines; a paragraph too wide for its blanks; the end of a page by its lines
+
+corners : List Row
+corners =
+    row "A.|   B" (1 ∷ 50 ∷ 0 ∷ 3 ∷ 64 ∷ 65 ∷ []) 5 1 1
+    ∷ row "A |\n B" (1 ∷ 0 ∷ 3 ∷ 64 ∷ 65 ∷ []) 3 1 1
+    ∷ row "COME\n" (36 ∷ 17 ∷ 64 ∷ 65 ∷ []) 3 1 1
+    ∷ row "A$B" (1 ∷ 3 ∷ 64 ∷ 65 ∷ []) 3 1 1
+    ∷ row "A$LB$SC" (1 ∷ 64 ∷ 3 ∷ 64 ∷ 65 ∷ 9 ∷ 64 ∷ 65 ∷ []) 5 3 2
+    ∷ row "$P$NAAAAAA" (0 ∷ 0 ∷ 1 ∷ 1 ∷ 1 ∷ 1 ∷ 1 ∷ 1 ∷ 64 ∷ 65 ∷ []) 8 1 1
+    ∷ row "$PAAAAAAAAA" (1 ∷ 1 ∷ 1 ∷ 1 ∷ 1 ∷ 1 ∷ 1 ∷ 1 ∷ 64 ∷ 1 ∷ 64 ∷ 65 ∷ []) 10 2 1
+    ∷ row "A$P$PA" (1 ∷ 64 ∷ 0 ∷ 0 ∷ 1 ∷ 64 ∷ 65 ∷ []) 4 2 1
+    ∷ row "AAAAAAAAAAAAAAAA" (1 ∷ 1 ∷ 1 ∷ 1 ∷ 1 ∷ 1 ∷ 1 ∷ 1 ∷ 64 ∷ 1 ∷ 1 ∷ 1 ∷ 1 ∷ 1 ∷ 1 ∷ 1 ∷ 1 ∷ 64 ∷ 65 ∷ []) 16 2 1
+    ∷ row "$PAAAAAAA" (1 ∷ 1 ∷ 1 ∷ 1 ∷ 1 ∷ 1 ∷ 1 ∷ 64 ∷ 65 ∷ []) 8 1 1
+    ∷ row "A$L$S$NA" (1 ∷ 64 ∷ 64 ∷ 65 ∷ 1 ∷ 64 ∷ 65 ∷ []) 5 3 2
+    ∷ row "A A A A A A" (1 ∷ 0 ∷ 1 ∷ 0 ∷ 1 ∷ 0 ∷ 1 ∷ 64 ∷ 1 ∷ 0 ∷ 1 ∷ 64 ∷ 65 ∷ []) 11 2 1 ∷ []
+
+corners-embossed : map embossed corners ≡ map expected corners
+unfolding computing row shown lent embossed expected corners
+corners-embossed = refl
+
+-- the pages of an output, as lists of lines, have the output as their bytes
+pages-of-rows : map (λ (r : Row). bytesOfPages (pagesOf (r .output))) (twelve ++ corners) ≡ map (λ (r : Row). r .output) (twelve ++ corners)
+unfolding computing row twelve corners
+pages-of-rows = refl

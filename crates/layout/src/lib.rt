@@ -1,0 +1,30 @@
+// The whole call: translated signs are gathered into words, laid out in lines and pages, and written as cells.
+// What each type means is said in specs/; this file has the types that the definitions and the calls share.
+
+use table::Fault;
+
+// A place on the page: the cells of the line that is being filled, the lines that the page has, whether the next word opens a paragraph,
+// and what has been written so far, in bytes, lines and pages.
+pub struct Place {
+    pub column: usize,
+    pub line: usize,
+    pub opening: bool,
+    pub written: usize,
+    pub lines: usize,
+    pub pages: usize,
+}
+
+// What the whole call answers. A refusal has its place where it isn't fixed.
+pub enum Answer {
+    Done {
+        written: usize,
+        pieces: usize,
+        lines: usize,
+        pages: usize,
+    },
+    Table(Fault),
+    Size,
+    LongText,
+    Unknown(usize),
+    Room(usize),
+}

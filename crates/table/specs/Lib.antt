@@ -1,0 +1,10 @@
+pub mod Cells
+pub mod Numbers
+pub mod Search
+pub mod Sections
+pub mod Records
+pub mod Table
+pub mod Grouping
+pub mod Verdict
+pub mod Example
+pub mod Computing

@@ -1,0 +1,34 @@
+// A contraction table's stored image: where its five sections lie, and what is wrong with it, if anything.
+// What each type means is said in specs/; this file has the types that the definitions and the calls share.
+
+// One section of the image: the offset of its first byte, the bytes of one record, and how many records it has.
+pub struct Section {
+    pub start: u16,
+    pub size: u16,
+    pub records: u16,
+}
+
+// The five sections of an image, in the order in which they lie, and the two numbers of the trailer.
+pub struct Sections {
+    pub alphabet: Section,
+    pub contractions: Section,
+    pub contexts: Section,
+    pub transitions: Section,
+    pub decisions: Section,
+    pub classes: u16,
+    pub variables: u16,
+}
+
+// Why an image is refused. A record is named by its offset in the image.
+pub enum Fault {
+    Frame,
+    Record(usize),
+    NoBlank,
+    Grouping(usize),
+}
+
+// What a check of an image answers.
+pub enum Verdict {
+    Accepted,
+    Refused(Fault),
+}

@@ -1,0 +1,7 @@
+pub mod Numbers
+pub mod Collapse
+pub mod Letters
+pub mod Decide
+pub mod Choose
+pub mod Pieces
+pub mod Computing

@@ -1,0 +1,7 @@
+// Translation of a text by a table: collapsing, the choice of entry, the states, the pieces and their signs.
+// What each type means is said in specs/; this file has the types that the definitions and the calls share.
+
+// What a translation is told besides the table and the text: the symbol that follows the end of the text.
+pub struct Setting {
+    pub following: u8,
+}
