@@ -1,2 +1,4 @@
 pub mod Moves
+pub mod Permitted
+pub mod NoLater
 pub mod Twelve
