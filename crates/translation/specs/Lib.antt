@@ -5,3 +5,8 @@ pub mod Decide
 pub mod Choose
 pub mod Pieces
 pub mod Computing
+pub mod Refusals
+pub mod Sound
+pub mod Admissible
+pub mod Chosen
+pub mod Moved

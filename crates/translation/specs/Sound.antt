@@ -1,0 +1,31 @@
+-- What an accepted table gives: of all that document 01 says of right records, what the laws of translation rest on, over the lists of a table alone.
+use Prim.Native.Nat.{ℕ, _≤_, _<_}
+use mathlib.Core.Path.{_≡_}
+use lib.ListN.{length, getD}
+use Rattle.table.specs.Numbers.{otherBlank, noCell, signLineEnd, signPageEnd, leastShift, entrySigns, blank}
+use Rattle.table.specs.Table.{Table, Entry}
+use Rattle.translation.specs.Letters.{letter}
+use Rattle.translation.specs.Choose.{entry}
+use Rattle.translation.specs.Refusals.{HasLetter}
+
+-- alphabet sign 0..64 or 99 (no cell)
+pub data LetterSign (g : ℕ) : Type 0 where
+  cell : g ≤ otherBlank → LetterSign g
+  no-cell : g ≡ noCell → LetterSign g
+
+-- entry signs 0..64, 70..73 or 99
+pub data EntrySign (g : ℕ) : Type 0 where
+  as-letter : LetterSign g → EntrySign g
+  format : signLineEnd ≤ g → g ≤ signPageEnd → EntrySign g
+
+-- shift from 1 to the length, and four signs
+pub record SoundEntry (e : Entry) : Type 0 where
+  pub shift-least : leastShift ≤ e .shift
+  pub shift-most : e .shift ≤ length (e .string)
+  pub four : length (e .signs) ≡ entrySigns
+  pub signs : (i : ℕ) → i < length (e .signs) → EntrySign (getD (e .signs) i noCell)
+
+pub record Sound (table : Table) : Type 0 where
+  pub has-blank : HasLetter (table .letters) blank
+  pub letters : (k : ℕ) → k < length (table .letters) → LetterSign (letter (table .letters) k .sign)
+  pub entries : (k : ℕ) → k < length (table .entries) → SoundEntry (entry table k)
