@@ -9,7 +9,7 @@ use lib.ListN.{length, take, drop, length-drop, take-append-drop}
 use Rattle.table.specs.Table.{Table}
 use Rattle.table.proofs.Search.{first-found}
 use Rattle.translation.specs.Decide.{States, startStates, moved}
-use Rattle.translation.specs.Choose.{admissible, choice, entry}
+use Rattle.translation.specs.Choose.{choice}
 use Rattle.translation.specs.Pieces.{characters, pieceBy, frontPiece, piecesFrom, piecesIn}
 use Rattle.translation.specs.Sound.{Sound}
 use Rattle.translation.specs.Chosen.{piece, pieceIn}
@@ -26,7 +26,7 @@ module _ (table : Table) (setting : Setting) where
       go : (o : Option ℕ) → choice table setting now rest ≡ o → 1 ≤ pieceBy table now rest o .shift
       go none e = omega arith
       go (some k) e =
-          let f = first-found (λ k. admissible table setting now rest (entry table k)) 0 (length (table .entries)) k e in
+          let f = first-found _ 0 (length (table .entries)) k e in
           sound .entries k (omega arith) .shift-least
 
   front-and-left : (now : States) (rest : List ℕ)

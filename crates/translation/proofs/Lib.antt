@@ -6,3 +6,5 @@ pub mod Chosen
 pub mod Consumed
 pub mod States
 pub mod Refusals
+pub mod Collapse
+pub mod Signs

@@ -2,7 +2,7 @@
 -- property of all elements of a list.
 use Prim.Native.Nat.{ℕ, zero, suc, _+_, _<_}
 use mathlib.Core.Bool.{Bool, true, false, not, _||_}
-use mathlib.Core.List.{List, [], _∷_}
+use mathlib.Core.List.{List, [], _∷_, _++_}
 use mathlib.Core.Option.{Option, none, some}
 use mathlib.Core.Path.{_≡_, refl, _∙_, ap}
 use native.Mathlib.Omega.{arith}
@@ -67,3 +67,23 @@ module _ {A : Type 0} (f : ℕ → A) where
 
   pub getD-listOf : (n k : ℕ) (d : A) → k < n → getD (listOf f n) k d ≡ f k
   getD-listOf n k d l = getD-listFrom 0 n k d l ∙ ap f (omega arith)
+
+-- ---- All elements of a list
+
+pub data All {A : Type 0} (P : A → Type 0) : List A → Type 0 where
+  all-nil : All P []
+  all-cons : {x : A} {xs : List A} → P x → All P xs → All P (x ∷ xs)
+
+module _ {A : Type 0} {P : A → Type 0} where
+  pub all-at : {xs : List A} → All P xs → (i : ℕ) (d : A) → i < length xs → P (getD xs i d)
+  all-at all-nil i d l = absurd (omega arith)
+  all-at (all-cons p ps) zero d l = p
+  all-at (all-cons p ps) (suc i) d l = all-at ps i d (omega arith)
+
+  pub all-of-places : (xs : List A) (d : A) → ((i : ℕ) → i < length xs → P (getD xs i d)) → All P xs
+  all-of-places [] d h = all-nil
+  all-of-places (x ∷ xs) d h = all-cons (h 0 (omega arith)) (all-of-places xs d (λ i l. h (suc i) (omega arith)))
+
+  pub all-append : {xs ys : List A} → All P xs → All P ys → All P (xs ++ ys)
+  all-append all-nil qs = qs
+  all-append (all-cons p ps) qs = all-cons p (all-append ps qs)

@@ -1,6 +1,6 @@
 -- Along the pieces: each stands at the front of a rest that isn't empty, the first is given the text and the start states, and each next one what its
 -- neighbour leaves. There are at most as many pieces as characters.
-use Prim.Native.Nat.{ℕ, zero, suc, _≤_, _<_}
+use Prim.Native.Nat.{ℕ, zero, suc, _≤_, _<_, suc-le-suc}
 use mathlib.Core.List.{List, [], _∷_}
 use mathlib.Core.Option.{Option, none, some}
 use mathlib.Core.Path.{_≡_, refl, sym, _∙_, ap}
@@ -53,9 +53,7 @@ module _ (table : Table) (setting : Setting) where
   at-front zero now rest i l = absurd (omega arith)
   at-front (suc n) now [] i l = absurd (omega arith)
   at-front (suc n) now (c ∷ rest) zero l = record { now = now; front = c; after = rest; made = refl }
-  at-front (suc n) now (c ∷ rest) (suc i) l =
-      let p = frontPiece table setting now (c ∷ rest) in
-      at-front n (moved table (p .class) now) (drop (p .shift) (c ∷ rest)) i (omega arith)
+  at-front (suc n) now (c ∷ rest) (suc i) l = at-front n _ _ i (omega arith)
 
   pub piece-at-front : (text : List ℕ) (i : ℕ) → i < length (piecesIn table setting text) → AtFront (pieceIn table setting text i)
   unfolding piecesIn
@@ -86,9 +84,7 @@ module _ (table : Table) (setting : Setting) where
         rest = g .rest ∙ ap (drop (p .shift)) (sym (front-rest now (c ∷ rest)));
         states = g .states ∙ ap (moved table (p .class)) (sym (front-states now (c ∷ rest)));
       }
-  given-next (suc n) now (c ∷ rest) (suc i) l =
-      let p = frontPiece table setting now (c ∷ rest) in
-      given-next n (moved table (p .class) now) (drop (p .shift) (c ∷ rest)) i (omega arith)
+  given-next (suc n) now (c ∷ rest) (suc i) l = given-next n _ _ i (omega arith)
 
   pub first-piece : (text : List ℕ) → 0 < length (piecesIn table setting text)
       → Given (startStates table) text (pieceIn table setting text 0)
@@ -106,10 +102,7 @@ module _ (table : Table) (setting : Setting) where
   unfolding piecesFrom
   at-most zero now rest = omega arith
   at-most (suc n) now [] = omega arith
-  at-most (suc n) now (c ∷ rest) =
-      let p = frontPiece table setting now (c ∷ rest) in
-      let h = at-most n (moved table (p .class) now) (drop (p .shift) (c ∷ rest)) in
-      omega arith
+  at-most (suc n) now (c ∷ rest) = suc-le-suc (at-most n _ _)
 
   pub pieces-at-most : (text : List ℕ) → length (piecesIn table setting text) ≤ length text
   unfolding piecesIn

@@ -9,14 +9,15 @@ use native.Mathlib.Omega.{arith}
 use lib.Dec.{eqb}
 use lib.ListN.{length, getD}
 use borrow.Author.Tests.{eqb-true, eqb-false, ne-eqb}
-use Rattle.table.specs.Numbers.{bar, blank}
+use Rattle.table.specs.Numbers.{bar}
 use Rattle.table.specs.Search.{isThere}
-use Rattle.table.specs.Table.{Letter}
+use Rattle.table.specs.Table.{Letter, Table}
 use Rattle.table.proofs.Search.{first-found, first-missing, first-is, first-is-not}
 use Rattle.translation.specs.Numbers.{lineFeed}
 use Rattle.translation.specs.Collapse.{unfed}
 use Rattle.translation.specs.Letters.{letter, letterOf, isUnknown, firstUnknown}
 use Rattle.translation.specs.Refusals.{HasLetter, UnknownAt, FirstUnknownAt}
+use Rattle.translation.specs.Sound.{Sound}
 use Rattle.translation.proofs.Lists.{clash}
 
 module _ (letters : List Letter) where
@@ -31,7 +32,7 @@ module _ (letters : List Letter) where
       let f = first-found (has c) 0 (length letters) k e in
       record { at = k; there = omega arith; same = eqb-true _ _ (f .passes) }
 
-  letter-missing : (c : ℕ) → letterOf letters c ≡ none → (k : ℕ) → k < length letters → letter letters k .symbol ≢ c
+  pub letter-missing : (c : ℕ) → letterOf letters c ≡ none → (k : ℕ) → k < length letters → letter letters k .symbol ≢ c
   unfolding letterOf
   letter-missing c e k l = eqb-false _ _ (first-missing (has c) 0 (length letters) e k (omega arith) (omega arith))
 
@@ -88,7 +89,9 @@ module _ (letters : List Letter) where
     λ known. first-is-not (λ j. isUnknown letters (getD text j 0)) 0 (length text) (λ j l h. fails-of-known text j (omega arith) (known j)),
   )
 
--- where the alphabet has the blank, a line feed is never unknown
-pub line-feed-known : {letters : List Letter} {text : List ℕ} {i : ℕ} → HasLetter letters blank → UnknownAt letters text i → getD text i 0 ≢ lineFeed
+-- a sound table has the blank, so a line feed is never unknown
+pub line-feed-known : {table : Table} {text : List ℕ} {i : ℕ} → Sound table → UnknownAt (table .letters) text i → getD text i 0 ≢ lineFeed
 unfolding unfed
-line-feed-known h u e = u .no-letter (h .at) (h .there) (h .same ∙ sym (ap unfed e))
+line-feed-known sound u e =
+    let h = sound .has-blank in
+    u .no-letter (h .at) (h .there) (h .same ∙ sym (ap unfed e))

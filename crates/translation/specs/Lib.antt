@@ -6,6 +6,7 @@ pub mod Choose
 pub mod Pieces
 pub mod Computing
 pub mod Refusals
+pub mod Signs
 pub mod Sound
 pub mod Admissible
 pub mod Chosen

@@ -2,21 +2,12 @@
 use Prim.Native.Nat.{ℕ, _≤_, _<_}
 use mathlib.Core.Path.{_≡_}
 use lib.ListN.{length, getD}
-use Rattle.table.specs.Numbers.{otherBlank, noCell, signLineEnd, signPageEnd, leastShift, entrySigns, blank}
+use Rattle.table.specs.Numbers.{noCell, leastShift, entrySigns, blank}
 use Rattle.table.specs.Table.{Table, Entry}
 use Rattle.translation.specs.Letters.{letter}
 use Rattle.translation.specs.Choose.{entry}
 use Rattle.translation.specs.Refusals.{HasLetter}
-
--- alphabet sign 0..64 or 99 (no cell)
-pub data LetterSign (g : ℕ) : Type 0 where
-  cell : g ≤ otherBlank → LetterSign g
-  no-cell : g ≡ noCell → LetterSign g
-
--- entry signs 0..64, 70..73 or 99
-pub data EntrySign (g : ℕ) : Type 0 where
-  as-letter : LetterSign g → EntrySign g
-  format : signLineEnd ≤ g → g ≤ signPageEnd → EntrySign g
+use Rattle.translation.specs.Signs.{LetterSign, EntrySign}
 
 -- shift from 1 to the length, and four signs
 pub record SoundEntry (e : Entry) : Type 0 where
