@@ -1,5 +1,5 @@
--- The test `admissible` says what the paper's words say, part by part: the string begins the rest, the context, the conditions of a column, the columns
--- from the left. Each part is a pair of laws, and the theorem puts them together.
+-- The test `admissible` says what the paper's words say, part by part: the string begins the rest, the context, the conditions of a column, the
+-- columns from the left. Each part is a pair of laws, and the theorem puts them together.
 use Prim.Native.Nat.{ℕ, pred}
 use mathlib.Core.Bool.{Bool, true, false, cond, not, _&&_, _||_, not-eq-not}
 use mathlib.Core.List.{List, [], _∷_, _++_}
@@ -13,7 +13,20 @@ use Rattle.table.specs.Search.{member}
 use Rattle.table.specs.Table.{Table, Entry, Column}
 use Rattle.translation.specs.Decide.{States, state, byteOfClass, conditionHolds, conditionsHold, Ruling, accept, reject, next, ruling, decided}
 use Rattle.translation.specs.Choose.{begins, classAfter, contextHolds, admissible}
-use Rattle.translation.specs.Admissible.{ConditionMet, ConditionsMet, Accepts, dash-next, G-accepts, Y-accepts, Y-next, N-next, ContextAllows, no-context, holds-class, Admissible}
+use Rattle.translation.specs.Admissible.{
+  ConditionMet,
+  ConditionsMet,
+  Accepts,
+  dash-next,
+  G-accepts,
+  Y-accepts,
+  Y-next,
+  N-next,
+  ContextAllows,
+  no-context,
+  holds-class,
+  Admissible,
+}
 use Rattle.translation.specs.declared.Setting.{Setting}
 use Rattle.translation.proofs.Lists.{clash, all-of-every, every-of-all, place-of-member, member-of-place}
 
@@ -103,7 +116,8 @@ module _ (states : States) (c : ℕ) where
   unfolding decided ruling
   decided-true [] e = absurd (clash e refl)
   decided-true (column ∷ columns) e =
-      go (eqb b accepts) (eqb b rejects) (eqb b byteYes) (eqb b byteNo) (conditionsHold column states) refl refl refl refl refl e (decided-true columns)
+      go (eqb b accepts) (eqb b rejects) (eqb b byteYes) (eqb b byteNo) (conditionsHold column states) refl refl refl refl refl e
+      (decided-true columns)
     where
       b : ℕ
       b = byteOfClass (column .byClass) c
@@ -162,8 +176,8 @@ admissible-as-written table setting states rest e = (in-words, as-test)
     in-words : admissible table setting states rest e ≡ true → Admissible table setting states rest e
     in-words t = go (begins (e .string) rest) (contextHolds table setting rest e) refl refl t
       where
-        go : (b h : Bool) → begins (e .string) rest ≡ b → contextHolds table setting rest e ≡ h → b && h && decided (table .decisions) states (e .class) ≡ true
-            → Admissible table setting states rest e
+        go : (b h : Bool) → begins (e .string) rest ≡ b → contextHolds table setting rest e ≡ h
+            → b && h && decided (table .decisions) states (e .class) ≡ true → Admissible table setting states rest e
         go true true eb eh t =
             let f = begins-true (e .string) rest eb in
             record {

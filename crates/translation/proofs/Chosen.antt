@@ -1,5 +1,5 @@
--- Each piece is by the first admissible entry in table order, or by the alphabet record where no entry is admissible. The idea: every piece stands at the
--- front of a rest that isn't empty, and there the choice is the first number that passes the test `admissible`, which says the paper's words.
+-- Each piece is by the first admissible entry in table order, or by the alphabet record where no entry is admissible. The idea: every piece stands
+-- at the front of a rest that isn't empty, and there the choice is the first number that passes the test `admissible`, which says the paper's words.
 use Prim.Native.Nat.{ℕ, _≤_, _<_}
 use mathlib.Core.Bool.{Bool, false}
 use mathlib.Core.List.{List, _∷_}
@@ -20,6 +20,11 @@ use Rattle.translation.specs.declared.Setting.{Setting}
 use Rattle.translation.proofs.Lists.{clash}
 use Rattle.translation.proofs.Admissible.{admissible-as-written}
 use Rattle.translation.proofs.Pieces.{piece-at-front}
+
+-- a piece of shift characters: as many as its shift, and at least one
+pub record TakesShift (p : Piece) : Type 0 where
+  pub least : 1 ≤ p .shift
+  pub taken : length (characters p) ≡ p .shift
 
 module _ (table : Table) (setting : Setting) where
   pub first-in-order : (text : List ℕ) (i : ℕ) → i < length (piecesIn table setting text)
@@ -75,11 +80,6 @@ module _ (table : Table) (setting : Setting) where
             by-entry = λ k same. by-entry now (c ∷ after) m k e same;
             by-letter = λ same. let z : _≡_ {A = ℕ} 0 1 = cc in absurd (omega arith);
           }
-
-  -- a piece of shift characters: as many as its shift, and at least one
-  pub record TakesShift (p : Piece) : Type 0 where
-    pub least : 1 ≤ p .shift
-    pub taken : length (characters p) ≡ p .shift
 
   pub piece-takes-shift : Sound table → (text : List ℕ) (i : ℕ) → i < length (piecesIn table setting text)
       → TakesShift (pieceIn table setting text i)

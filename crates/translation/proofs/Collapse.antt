@@ -1,5 +1,5 @@
--- Collapsing adds nothing: the collapsed text is made of lent characters in their order, none of them a bar, a line feed as a blank. So it is no longer than
--- the text, and where no lent character is unknown each of its characters has an alphabet record.
+-- Collapsing adds nothing: the collapsed text is made of lent characters in their order, none of them a bar, a line feed as a blank. So it is no
+-- longer than the text, and where no lent character is unknown each of its characters has an alphabet record.
 use Prim.Native.Nat.{ℕ, zero, suc, pred, _≤_, _<_}
 use mathlib.Core.Bool.{Bool, true, false}
 use mathlib.Core.List.{List, [], _∷_}

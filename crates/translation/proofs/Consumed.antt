@@ -1,9 +1,9 @@
--- The characters of the pieces, joined, are the text: nothing is skipped and nothing taken twice. The idea: a piece takes the first characters of its rest,
--- as many as its shift, and the next piece is given what is left; a sound table's shifts are at least 1, so as many pieces as characters are enough.
+-- The characters of the pieces, joined, are the text: nothing is skipped and nothing taken twice. The idea: a piece takes the first characters of its
+-- rest, as many as its shift, and the next piece is given what is left; a sound table's shifts are at least 1, so as many pieces as characters are enough.
 use Prim.Native.Nat.{ℕ, zero, suc, _≤_, _<_}
 use mathlib.Core.List.{List, [], _∷_, _++_, map, flatten, append-assoc}
 use mathlib.Core.Option.{Option, none, some}
-use mathlib.Core.Path.{_≡_, refl}
+use mathlib.Core.Path.{_≡_, refl, _∙_, ap}
 use native.Mathlib.Omega.{arith}
 use lib.ListN.{length, take, drop, length-drop, take-append-drop}
 use Rattle.table.specs.Table.{Table}
@@ -48,7 +48,8 @@ module _ (table : Table) (setting : Setting) where
           let p = frontPiece table setting now (c ∷ rest) in
           let s = front-shift sound now (c ∷ rest) in
           let shorter : length (drop (p .shift) (c ∷ rest)) ≤ n = rw (length-drop (p .shift) (c ∷ rest)) (omega arith) in
-          rw (go n (moved table (p .class) now) (drop (p .shift) (c ∷ rest)) shorter) (front-and-left now (c ∷ rest))
+          ap (λ (l : List ℕ). characters p ++ l) (go n (moved table (p .class) now) (drop (p .shift) (c ∷ rest)) shorter)
+          ∙ front-and-left now (c ∷ rest)
 
   -- ---- Piece by piece
 

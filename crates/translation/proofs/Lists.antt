@@ -1,5 +1,5 @@
--- General laws of the tests and lists of table/specs/Search.antt: every number below n passes, a member stands at a place, a list by its places; and a
--- property of all elements of a list.
+-- General laws of the tests and lists of table/specs/Search.antt: every number below n passes, a member stands at a place, a list by its places; and
+-- a property of all elements of a list.
 use Prim.Native.Nat.{ℕ, zero, suc, _+_, _<_}
 use mathlib.Core.Bool.{Bool, true, false, not, _||_}
 use mathlib.Core.List.{List, [], _∷_, _++_}

@@ -1,5 +1,5 @@
--- The signs that the pieces of a sound table print: cells 0..63 and format signs 70..73, at most four from each piece. The idea: a piece has the signs of a
--- right entry or of a right alphabet record, and printing drops 99 and makes 64 a blank.
+-- The signs that the pieces of a sound table print: cells 0..63 and format signs 70..73, at most four from each piece. The idea: a piece has the signs
+-- of a right entry or of a right alphabet record, and printing drops 99 and makes 64 a blank.
 use Prim.Native.Nat.{ℕ, suc, _*_, _≤_, _<_}
 use mathlib.Core.Bool.{Bool, true, false, cond}
 use mathlib.Core.List.{List, [], _∷_}

@@ -1,5 +1,5 @@
--- States start at no, and each piece's states come from the piece before by the transition of its class; what a transition does to one variable is what the
--- paper says.
+-- States start at no, and each piece's states come from the piece before by the transition of its class; what a transition does to one variable is
+-- what the paper says.
 use Prim.Native.Nat.{ℕ, zero, suc, _<_}
 use mathlib.Core.Bool.{false}
 use mathlib.Core.List.{List, []}

@@ -1,5 +1,5 @@
--- 'An entry is admissible when', in the paper's words and with no test: the string begins the rest, the right context holds the class after the string,
--- the decision columns, read from the left, accept the class. proofs/Admissible.antt shows that the test `admissible` says the same.
+-- 'An entry is admissible when', in the paper's words and with no test: the string begins the rest, the right context holds the class after the
+-- string, the decision columns, read from the left, accept the class. proofs/Admissible.antt shows that the test `admissible` says the same.
 use Prim.Native.Nat.{ℕ, pred, _<_}
 use mathlib.Core.Bool.{Bool, true, false}
 use mathlib.Core.List.{List, [], _∷_, _++_}

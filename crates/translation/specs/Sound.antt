@@ -9,7 +9,7 @@ use Rattle.translation.specs.Choose.{entry}
 use Rattle.translation.specs.Refusals.{HasLetter}
 use Rattle.translation.specs.Signs.{LetterSign, EntrySign}
 
--- shift from 1 to the length, and four signs
+-- shift from 1 to the length, so that the string isn't empty, and four signs
 pub record SoundEntry (e : Entry) : Type 0 where
   pub shift-least : leastShift ≤ e .shift
   pub shift-most : e .shift ≤ length (e .string)
