@@ -1,16 +1,49 @@
--- The test of the frame passes just where the frame is right in the paper's words. Where the size of a record isn't 0, the number of whole records in a
--- section is its length divided by that size, so the number that the paper says there is is the one that the sections give.
+-- The test of the frame passes just where the frame is right in the paper's words. The idea: a record has at least one byte, so where a section holds
+-- whole records their number is the section's length divided by the size of one, which is what the test takes for it.
 use Prim.Native.Nat.{ℕ, zero, suc, _+_, _-_, _*_, _/_, _≤_, _<_}
 use mathlib.Core.Bool.{true}
 use mathlib.Core.List.{List}
 use mathlib.Core.Logic.{_↔_, Iff·trans}
-use mathlib.Core.Path.{_≡_, refl, sym, _∙_, ap, subst}
+use mathlib.Core.Path.{_≡_, refl, sym, _∙_}
 use native.Mathlib.Nat.{div-eq-of-eq-mul-right}
 use native.Mathlib.Omega.{arith}
 use lib.Dec.{leb}
 use lib.ListN.{length}
-use Rattle.table.specs.Numbers.{firstMarkByte, secondMarkByte, firstMark, secondMark, leastClasses, mostClasses, mostVariables, leastLetters, mostLetters, letterSize, entrySize, leastEntries, mostEntries, contextSize, leastContexts, mostContexts, leastColumns, mostColumns}
-use Rattle.table.specs.Sections.{byteAt, trailerAt, distance, classesIn, variablesIn, sectionAt, lastSection, sectionsIn, trailerRight, distancesRight, wholeRecords, lengthsRight, frameRight}
+use Rattle.table.specs.Numbers.{
+  firstMarkByte,
+  secondMarkByte,
+  firstMark,
+  secondMark,
+  leastClasses,
+  mostClasses,
+  mostVariables,
+  leastLetters,
+  mostLetters,
+  letterSize,
+  entrySize,
+  leastEntries,
+  mostEntries,
+  contextSize,
+  leastContexts,
+  mostContexts,
+  leastColumns,
+  mostColumns,
+}
+use Rattle.table.specs.Sections.{
+  byteAt,
+  trailerAt,
+  distance,
+  classesIn,
+  variablesIn,
+  sectionAt,
+  lastSection,
+  sectionsIn,
+  trailerRight,
+  distancesRight,
+  wholeRecords,
+  lengthsRight,
+  frameRight,
+}
 use Rattle.table.specs.Refusals.{Between, WholeRecords, FrameRight}
 use Rattle.table.specs.declared.Section.{Section}
 use Rattle.table.proofs.Tests.{Tells, tells-and, tells-and-then, tells-le, tells-eq, tells-within}
@@ -71,7 +104,8 @@ module _ (image : List ℕ) where
       tells-and
       (tells-and
       (tells-and
-      (tells-and (tells-whole (sectionsIn image .alphabet) _ _ _ (omega arith) refl) (tells-whole (sectionsIn image .contractions) _ _ _ (omega arith) refl))
+      (tells-and (tells-whole (sectionsIn image .alphabet) _ _ _ (omega arith) refl)
+      (tells-whole (sectionsIn image .contractions) _ _ _ (omega arith) refl))
       (tells-whole (sectionsIn image .contexts) _ _ _ (omega arith) refl))
       (tells-whole (sectionsIn image .transitions) _ _ _ (omega arith) refl))
       (tells-whole (sectionsIn image .decisions) _ _ _ (omega arith) refl)
@@ -81,7 +115,7 @@ module _ (image : List ℕ) where
   frame-right =
       Iff·trans
       (tells-and-then (tells-and (tells-and (tells-le _ (length image)) tells-trailer) tells-distances)
-      (λ h. let c = h .0 .1 .0 .1 in tells-lengths (omega arith))) (
+      (λ h. tells-lengths (omega arith))) (
         λ h.
             record {
               trailer-there = h .0 .0 .0;

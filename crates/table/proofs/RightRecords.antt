@@ -3,7 +3,7 @@
 use Prim.Native.Nat.{ℕ, zero, suc, pred, _+_, _-_, _≤_, _<_}
 use mathlib.Core.Bool.{Bool, true}
 use mathlib.Core.List.{List, [], _∷_, _++_}
-use mathlib.Core.Logic.{_↔_, _⊎_, inl, inr, ⊎-elim, Iff·rfl, Iff·trans}
+use mathlib.Core.Logic.{_↔_, _⊎_, inl, inr, ⊎-elim, Iff·trans}
 use mathlib.Core.Path.{_≡_, sym, _∙_, ap, subst}
 use native.Mathlib.Decide.{decLt, ℕ-discrete}
 use native.Mathlib.Omega.{arith}
@@ -88,7 +88,7 @@ use Rattle.table.proofs.Tests.{
   tells-lt,
   tells-eq,
   tells-within,
-  tells-every,
+  every-law,
 }
 
 -- ---- Rules: lists of tests
@@ -99,7 +99,7 @@ Passes rule = (j : ℕ) → j < length rule → getD rule j true ≡ true
 
 pub right-record-law : (rule : List Bool) → (rightRecord rule ≡ true) ↔ Passes rule
 unfolding rightRecord wrongByte
-right-record-law rule = tells-every (λ j. getD rule j true) (length rule) (λ k l. Iff·rfl)
+right-record-law rule = every-law (λ j. getD rule j true) (length rule)
 
 -- the rule passes just where the fact holds
 record RuleTells (rule : List Bool) (Fact : Type 0) : Type 0 where

@@ -12,6 +12,7 @@ use Rattle.table.specs.Search.{within, first, isThere, every}
 use Rattle.table.specs.Refusals.{Between}
 use Rattle.table.proofs.Search.{first-found, first-missing}
 
+-- the test passes just where the fact holds
 abbrev pub Tells : Bool → Type 0 → Type 0
 Tells test Fact = (test ≡ true) ↔ Fact
 
@@ -72,14 +73,11 @@ tells-within least most n =
 
 -- ---- Every number below a bound
 
-pub tells-every : {P : ℕ → Type 0} (test : ℕ → Bool) (n : ℕ) → ((k : ℕ) → k < n → Tells (test k) (P k))
-    → Tells (every test n) ((k : ℕ) → k < n → P k)
-tells-every {P} test n tells = go (first (λ k. not (test k)) n) refl
+pub every-law : (test : ℕ → Bool) (n : ℕ) → (every test n ≡ true) ↔ ((k : ℕ) → k < n → test k ≡ true)
+every-law test n = go (first (λ k. not (test k)) n) refl
   where
-    go : (o : Option ℕ) → first (λ k. not (test k)) n ≡ o → Tells (not (isThere o)) ((k : ℕ) → k < n → P k)
-    go none e =
-        (λ _ k l. tells k l .0 (not-false _ (first-missing (λ k. not (test k)) 0 n e k (omega arith) (omega arith))), λ _. refl)
+    go : (o : Option ℕ) → first (λ k. not (test k)) n ≡ o → (not (isThere o) ≡ true) ↔ ((k : ℕ) → k < n → test k ≡ true)
+    go none e = (λ _ k l. not-false _ (first-missing (λ k. not (test k)) 0 n e k (omega arith) (omega arith)), λ _. refl)
     go (some k) e =
         let f = first-found (λ k. not (test k)) 0 n k e in
-        let l : k < n = omega arith in
-        (λ t. absurd (false≢true t), λ h. absurd (true≢false (sym (tells k l .1 (h k l)) ∙ not-true _ (f .passes))))
+        (λ t. absurd (false≢true t), λ h. absurd (true≢false (sym (h k (omega arith)) ∙ not-true _ (f .passes))))
