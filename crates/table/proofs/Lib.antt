@@ -7,3 +7,5 @@ pub mod FirstWrong
 pub mod Grouping
 pub mod Refusals
 pub mod Example
+pub mod Product
+pub mod Promises
