@@ -1,2 +1,5 @@
 pub mod Moves
+pub mod Lists
+pub mod Kept
+pub mod Counts
 pub mod Twelve

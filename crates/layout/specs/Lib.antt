@@ -4,5 +4,7 @@ pub mod Place
 pub mod Pages
 pub mod Permitted
 pub mod Spots
+pub mod Lists
+pub mod Fitting
 pub mod Emboss
 pub mod Computing
