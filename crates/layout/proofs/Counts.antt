@@ -17,14 +17,12 @@ use Rattle.layout.specs.Pages.{count}
 use Rattle.layout.specs.Permitted.{Spot}
 use Rattle.layout.specs.Lists.{All, empty, _and_}
 use Rattle.layout.specs.Fitting.{Dotted, WordFits, Fitting}
+use Rattle.layout.specs.Right.{IsCell}
 use Rattle.layout.specs.declared.Place.{Place}
 use Rattle.layout.proofs.Lists.{all-append, all-replicate, all-weaker}
 use Rattle.layout.proofs.Kept.{Kept, celled, lined, paged, opened, items-keep, volume-keeps}
 
 -- ---- Cells: the blanks and the word that a move writes
-
-abbrev pub IsCell : ℕ → Type 0
-IsCell c = c ≤ mostCell
 
 pub cells-after : {W : ℕ} (blanks : ℕ) {w : List ℕ} → WordFits W w → All IsCell (cellsAfter blanks w)
 unfolding cellsAfter
@@ -75,7 +73,7 @@ module _ (W P : ℕ) (p : Place) where
               lines = rw count-append (omega arith);
               pages = rw count-append (omega arith);
             };
-        page = λ bytes words spots q h k r.
+        page = λ bytes words spots q c l m r.
             record {
               written = rw length-append (omega arith);
               lines = rw count-append (omega arith);

@@ -75,8 +75,8 @@ pub record Kept (W P : ℕ) (R : List ℕ → List (List ℕ) → List Spot → 
       → R (bytes ++ cellsAfter blanks w) (words ++ w ∷ []) (spots ++ spot (celled p blanks (length w)) ∷ []) (celled p blanks (length w))
   pub line : (bytes : List ℕ) (words : List (List ℕ)) (spots : List Spot) (p : Place) → p .line < P → R bytes words spots p
       → R (bytes ++ lineMark ∷ []) words spots (lined p)
-  pub page : (bytes : List ℕ) (words : List (List ℕ)) (spots : List Spot) (p : Place) → p .column ≡ 0 → 0 < p .line → R bytes words spots p
-      → R (bytes ++ pageMark ∷ []) words spots (paged p)
+  pub page : (bytes : List ℕ) (words : List (List ℕ)) (spots : List Spot) (p : Place) → p .column ≡ 0 → 0 < p .line → p .line ≤ P
+      → R bytes words spots p → R (bytes ++ pageMark ∷ []) words spots (paged p)
   pub opens : (bytes : List ℕ) (words : List (List ℕ)) (spots : List Spot) (p : Place) → R bytes words spots p → R bytes words spots (opened p)
 
 -- ---- Facts of the moves: a line's end leaves an empty line, and what opens a line fits
@@ -154,7 +154,8 @@ module _ (W P : ℕ) (R : List ℕ → List (List ℕ) → List Spot → Place �
         go : (b : Bool) → eqb (p .line + 1) P ≡ b → R (bytes ++ lineMark ∷ []) words spots (lined p)
             → Held (bytes ++ lineBytes P p) words spots (afterLine P p)
         go true e r =
-            let r′ = kept .page (bytes ++ lineMark ∷ []) words spots (lined p) refl (omega arith) r in
+            let h = eqb-true (p .line + 1) P e in
+            let r′ = kept .page (bytes ++ lineMark ∷ []) words spots (lined p) refl (omega arith) (omega arith) r in
             let two : p .written + 1 + 1 ≡ p .written + 2 = omega arith in
             rw e (record { room = omega arith; holds = rw (append-assoc, two) at r′ })
         go false e r =
@@ -193,7 +194,7 @@ module _ (W P : ℕ) (R : List ℕ → List (List ℕ) → List Spot → Place �
             → Held (bytes ++ pageEndBytes P p) words spots (afterPageEnd P p)
         go true e r =
             let h = ltb-true 0 (q .line) e in
-            let r′ = kept .page (bytes ++ lineEndBytes P p) words spots q (line-end-column P p) h (r .holds) in
+            let r′ = kept .page (bytes ++ lineEndBytes P p) words spots q (line-end-column P p) h (omega arith) (r .holds) in
             rw e (record { room = omega arith; holds = rw append-assoc at r′ })
         go false e r = rw (e, append-nil) r
 

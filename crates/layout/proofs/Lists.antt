@@ -16,3 +16,8 @@ all-replicate (suc n) x h = h and all-replicate n x h
 pub all-weaker : {A : Type 0} {holds also : A → Type 0} {xs : List A} → ((x : A) → holds x → also x) → All holds xs → All also xs
 all-weaker f empty = empty
 all-weaker f (_and_ {x} h hs) = f x h and all-weaker f hs
+
+pub all-at : {A : Type 0} {holds : A → Type 0} {xs : List A} → All holds xs → (i : ℕ) (d : A) → i < length xs → holds (getD xs i d)
+all-at empty i d l = absurd (omega arith)
+all-at (h and hs) zero d l = h
+all-at (h and hs) (suc i) d l = all-at hs i d (omega arith)

@@ -6,5 +6,6 @@ pub mod Permitted
 pub mod Spots
 pub mod Lists
 pub mod Fitting
+pub mod Right
 pub mod Emboss
 pub mod Computing
