@@ -19,7 +19,7 @@ use Rattle.layout.specs.Lists.{All, empty, _and_}
 use Rattle.layout.specs.Fitting.{Dotted, WordFits, Fitting}
 use Rattle.layout.specs.Right.{IsCell, LineRight, PageRight}
 use Rattle.layout.specs.declared.Place.{Place}
-use Rattle.layout.proofs.Lists.{all-append, all-at}
+use Rattle.layout.proofs.Lists.{all-append, all-at, flatten-append}
 use Rattle.layout.proofs.Kept.{Kept, celled, lined, paged, opened, AtEnd, volume-ends, volume-keeps}
 use Rattle.layout.proofs.Counts.{cells-after, length-after, lines-are-64s, pages-are-65s}
 
@@ -89,11 +89,6 @@ bytes-of-pages : (xs ys : List Page) → bytesOfPages (xs ++ ys) ≡ bytesOfPage
 unfolding bytesOfPages
 bytes-of-pages [] ys = refl
 bytes-of-pages (x ∷ xs) ys = rw (append-assoc, bytes-of-pages xs ys)
-
-pub flatten-append : {A : Type 0} (xs ys : List (List A)) → flatten (xs ++ ys) ≡ flatten xs ++ flatten ys
-unfolding flatten
-flatten-append [] ys = refl
-flatten-append (x ∷ xs) ys = rw (append-assoc, flatten-append xs ys)
 
 -- ---- The invariant
 

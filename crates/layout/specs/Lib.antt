@@ -7,5 +7,6 @@ pub mod Spots
 pub mod Lists
 pub mod Fitting
 pub mod Right
+pub mod Signs
 pub mod Emboss
 pub mod Computing

@@ -1,0 +1,25 @@
+-- Demand 2, of cells and signs: a cell that isn't blank is 1 to 63, the signs that end a word are the blank and 70 to 73, and what translation prints is
+-- cells and format signs.
+use Prim.Native.Nat.{ℕ, _≤_}
+use mathlib.Core.Bool.{Bool, not, _||_}
+use lib.Dec.{eqb}
+use Rattle.table.specs.Numbers.{blankCell, signLineEnd, signPageEnd}
+use Rattle.table.specs.Cells.{mostCell}
+use Rattle.table.specs.Search.{within, isThere}
+use Rattle.layout.specs.Words.{formatOf}
+
+-- a cell that isn't blank
+unfoldable pub isDotted : ℕ → Bool
+isDotted c = within 1 mostCell c
+
+-- signs 0 and 64 end a word, as do 70..73; 64 has become 0
+unfoldable pub endsWord : ℕ → Bool
+endsWord g = eqb g blankCell || isThere (formatOf g)
+
+abbrev pub staysInWord : ℕ → Bool
+staysInWord g = not (endsWord g)
+
+-- a sign that pieces print: a cell, or one of 70..73
+pub data PrintedSign (g : ℕ) : Type 0 where
+  cell : g ≤ mostCell → PrintedSign g
+  format : signLineEnd ≤ g → g ≤ signPageEnd → PrintedSign g
