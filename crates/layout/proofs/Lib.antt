@@ -5,4 +5,5 @@ pub mod Counts
 pub mod Sheet
 pub mod Words
 pub mod Signs
+pub mod Drawn
 pub mod Twelve

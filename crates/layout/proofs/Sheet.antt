@@ -105,7 +105,7 @@ pub record Standing (W P : ℕ) (bytes : List ℕ) (s : Sheet) (p : Place) : Typ
 empty-right : {W : ℕ} → LineRight W []
 empty-right = record { width = omega arith; cells = empty; no-trailing-blank = λ front e. let l = ap length e in omega (arith, simp length-append at l) }
 
-nil-of-length : {A : Type 0} (xs : List A) → length xs ≡ 0 → xs ≡ []
+pub nil-of-length : {A : Type 0} (xs : List A) → length xs ≡ 0 → xs ≡ []
 nil-of-length [] e = refl
 nil-of-length (x ∷ xs) e = absurd (omega arith)
 
@@ -184,7 +184,7 @@ module _ (W P : ℕ) (bytes : List ℕ) (s : Sheet) (p : Place) (st : Standing W
 
 -- ---- The whole volume
 
-standing-kept : (W P : ℕ) → Kept W P (λ bytes words spots p. Standing W P bytes (reads unmarked bytes) p)
+pub standing-kept : (W P : ℕ) → Kept W P (λ bytes words spots p. Standing W P bytes (reads unmarked bytes) p)
 unfolding reads read
 standing-kept W P =
     record {
@@ -195,7 +195,7 @@ standing-kept W P =
       opens = λ bytes words spots p r. opened-standing W P bytes _ p r;
     }
 
-unmarked-standing : (W P : ℕ) → Standing W P [] unmarked start
+pub unmarked-standing : (W P : ℕ) → Standing W P [] unmarked start
 unfolding bytesOfPages bytesOfLines flatten
 unmarked-standing W P =
     record {
@@ -209,28 +209,29 @@ unmarked-standing W P =
       on-line = refl;
     }
 
-abbrev pub whole : List ℕ → Sheet
-whole bytes = record { pages = pagesOf bytes; lines = []; line = [] }
-
 module _ (W P : ℕ) (items : List Item) (fits : Fitting W items) (room : 0 < P) where
-  standing : Standing W P (volume W P items) (whole (volume W P items)) (volumeEnd W P items)
-  unfolding reads pagesOf
-  standing = subst (λ (s : Sheet). Standing W P v s (volumeEnd W P items)) (λ i. record { pages = pages-read unmarked v i; lines = lines-end i; line = line-ends i }) st
-    where
-      v : List ℕ
-      v = volume W P items
+  abbrev bytes : List ℕ
+  bytes = volume W P items
 
-      st : Standing W P v (reads unmarked v) (volumeEnd W P items)
-      st = volume-keeps W P _ (standing-kept W P) items fits room (unmarked-standing W P)
+  read-standing : Standing W P bytes (reads unmarked bytes) (volumeEnd W P items)
+  unfolding reads
+  read-standing = volume-keeps W P _ (standing-kept W P) items fits room (unmarked-standing W P)
 
-      ends : AtEnd (volumeEnd W P items)
-      ends = volume-ends W P items
+  -- the sheet of the volume: its pages, and nothing besides
+  pub volume-sheet : reads unmarked (volume W P items) ≡ record { pages = pagesOf (volume W P items); lines = []; line = [] }
+  unfolding pagesOf
+  volume-sheet =
+      let st = read-standing in
+      let end = volume-ends W P items in
+      λ i.
+      record {
+        pages = pages-read unmarked bytes i;
+        lines = nil-of-length (reads unmarked bytes .lines) (omega arith) i;
+        line = nil-of-length (reads unmarked bytes .line) (omega arith) i;
+      }
 
-      lines-end : reads unmarked v .lines ≡ []
-      lines-end = let s = st in let e = ends in nil-of-length (reads unmarked v .lines) (omega arith)
-
-      line-ends : reads unmarked v .line ≡ []
-      line-ends = let s = st in let e = ends in nil-of-length (reads unmarked v .line) (omega arith)
+  standing : Standing W P bytes (record { pages = pagesOf bytes; lines = []; line = [] }) (volumeEnd W P items)
+  standing = rw volume-sheet at read-standing
 
   -- the pages have the bytes
   pub pages-have-the-bytes : bytesOfPages (pagesOf (volume W P items)) ≡ volume W P items

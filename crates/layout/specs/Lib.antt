@@ -8,5 +8,6 @@ pub mod Lists
 pub mod Fitting
 pub mod Right
 pub mod Signs
+pub mod Drawn
 pub mod Emboss
 pub mod Computing
