@@ -1,12 +1,12 @@
 -- The counts that a place carries are those of the bytes: bytes written, lines (64s) and pages (65s). From any place on, each grows by what the bytes
 -- have; a cell is at most 63, so that it is no mark.
-use Prim.Native.Nat.{ℕ, _+_, _≤_, _<_}
+use Prim.Native.Nat.{ℕ, _+_, _<_}
 use mathlib.Core.Bool.{Bool, true, false}
 use mathlib.Core.List.{List, [], _∷_, _++_}
 use mathlib.Core.Path.{_≡_, refl}
 use native.Mathlib.Omega.{arith}
 use lib.Dec.{eqb}
-use lib.ListN.{length, length-append, length-replicate, replicate}
+use lib.ListN.{length, length-append, length-replicate}
 use borrow.Author.Tests.{ne-eqb}
 use Rattle.table.specs.Numbers.{blankCell}
 use Rattle.table.specs.Cells.{mostCell}
@@ -14,13 +14,12 @@ use Rattle.layout.specs.Numbers.{lineMark, pageMark}
 use Rattle.layout.specs.Words.{Item}
 use Rattle.layout.specs.Place.{start, cellsAfter, afterItems, itemsBytes, volumeEnd, volume}
 use Rattle.layout.specs.Pages.{count}
-use Rattle.layout.specs.Permitted.{Spot}
 use Rattle.layout.specs.Lists.{All, empty, _and_}
-use Rattle.layout.specs.Fitting.{Dotted, WordFits, Fitting}
+use Rattle.layout.specs.Fitting.{WordFits, Fitting}
 use Rattle.layout.specs.Right.{IsCell}
 use Rattle.layout.specs.declared.Place.{Place}
 use Rattle.layout.proofs.Lists.{all-append, all-replicate, all-weaker}
-use Rattle.layout.proofs.Kept.{Kept, celled, lined, paged, opened, items-keep, volume-keeps}
+use Rattle.layout.proofs.Kept.{Kept, items-keep, volume-keeps}
 
 -- ---- Cells: the blanks and the word that a move writes
 

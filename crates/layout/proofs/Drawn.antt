@@ -3,18 +3,18 @@
 use Prim.Native.Nat.{ℕ, zero, suc, _+_, _-_, _≤_, _<_}
 use mathlib.Core.List.{List, [], _∷_, _++_, append-assoc, append-nil, flatten}
 use mathlib.Core.Logic.{_≢_}
-use mathlib.Core.Path.{_≡_, refl, sym, ap, subst, _∙_}
+use mathlib.Core.Path.{_≡_, refl, sym, ap, _∙_}
 use native.Mathlib.Omega.{arith}
 use native.Mathlib.Decide.{ℕ-discrete, decLt}
-use lib.ListN.{length, getD, take, drop, replicate, length-append, length-drop, length-replicate, getD-replicate, List·getD-append}
-use lib.Seq.{take-length, take-append-le, drop-append-le, take-at, drop-at, getD-at, getD-append-add}
+use lib.ListN.{length, getD, drop, replicate, length-append, length-drop, length-replicate, getD-replicate, List·getD-append}
+use lib.Seq.{take-length, take-append-le, drop-append-le, drop-at, getD-at, getD-append-add}
 use Rattle.table.specs.Numbers.{blankCell}
 use Rattle.layout.specs.Words.{Item}
-use Rattle.layout.specs.Place.{start, cellsAfter, volumeEnd, volume}
-use Rattle.layout.specs.Pages.{Line, pagesOf}
+use Rattle.layout.specs.Place.{start, cellsAfter, volume}
+use Rattle.layout.specs.Pages.{Line}
 use Rattle.layout.specs.Permitted.{Spot}
 use Rattle.layout.specs.Spots.{spot, spotsFrom}
-use Rattle.layout.specs.Fitting.{WordFits, Fitting, wordsIn}
+use Rattle.layout.specs.Fitting.{Fitting, wordsIn}
 use Rattle.layout.specs.Drawn.{volumeLines, lineAt, wordAt, spotAt, StandsIn, LiesIn, WordOrBlank, in-word, is-blank, Drawn}
 use Rattle.layout.specs.declared.Place.{Place}
 use Rattle.layout.proofs.Lists.{flatten-append}

@@ -43,7 +43,7 @@ use Rattle.layout.specs.Place.{
 }
 use Rattle.layout.specs.Permitted.{Spot}
 use Rattle.layout.specs.Spots.{spot, spotsFrom}
-use Rattle.layout.specs.Lists.{All, empty, _and_}
+use Rattle.layout.specs.Lists.{empty, _and_}
 use Rattle.layout.specs.Fitting.{WordFits, Fitting, wordsIn}
 use Rattle.layout.specs.declared.Place.{Place}
 

@@ -3,24 +3,23 @@
 use Prim.Native.Nat.{ℕ, _+_, _-_, _≤_, _<_}
 use mathlib.Core.Bool.{Bool, true, false}
 use mathlib.Core.List.{List, [], _∷_, _++_, append-assoc, append-nil, flatten}
-use mathlib.Core.Path.{_≡_, refl, sym, ap, subst, _∙_}
+use mathlib.Core.Path.{_≡_, refl, sym, ap, _∙_}
 use native.Mathlib.Omega.{arith}
 use lib.Dec.{eqb}
 use lib.ListN.{length, getD, replicate, length-append}
-use lib.Seq.{append-snoc, getD-append-seam, getD-append-add}
+use lib.Seq.{getD-append-seam, getD-append-add}
 use borrow.Author.Tests.{ne-eqb}
 use Rattle.table.specs.Numbers.{blankCell}
-use Rattle.table.specs.Cells.{mostCell}
 use Rattle.layout.specs.Numbers.{lineMark, pageMark}
 use Rattle.layout.specs.Words.{Item}
 use Rattle.layout.specs.Place.{start, cellsAfter, volumeEnd, volume}
 use Rattle.layout.specs.Pages.{Line, Page, bytesOfLines, bytesOfPages, pagesFrom, pagesOf, count}
 use Rattle.layout.specs.Lists.{All, empty, _and_}
-use Rattle.layout.specs.Fitting.{Dotted, WordFits, Fitting}
+use Rattle.layout.specs.Fitting.{WordFits, Fitting}
 use Rattle.layout.specs.Right.{IsCell, LineRight, PageRight}
 use Rattle.layout.specs.declared.Place.{Place}
 use Rattle.layout.proofs.Lists.{all-append, all-at, flatten-append}
-use Rattle.layout.proofs.Kept.{Kept, celled, lined, paged, opened, AtEnd, volume-ends, volume-keeps}
+use Rattle.layout.proofs.Kept.{Kept, celled, lined, paged, opened, volume-ends, volume-keeps}
 use Rattle.layout.proofs.Counts.{cells-after, length-after, lines-are-64s, pages-are-65s}
 
 -- ---- A sheet, and what a byte does to it: 65 ends the page, 64 the line, and any other goes on the line

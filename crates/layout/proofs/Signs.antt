@@ -1,17 +1,16 @@
 -- The cells of the pages that aren't blank are, in order, the cells of the words, and so the signs 1 to 63. A move writes blanks, a word or a mark, and of
 -- these only the word has dots.
 use Prim.Native.Nat.{ℕ, _≤_, _<_}
-use mathlib.Core.Bool.{Bool, true, false}
-use mathlib.Core.List.{List, [], _∷_, _++_, append-nil, flatten}
-use mathlib.Core.Path.{_≡_, refl, sym, _∙_}
+use mathlib.Core.Bool.{true}
+use mathlib.Core.List.{List, [], _∷_, append-nil, flatten}
+use mathlib.Core.Path.{_≡_, refl, _∙_}
 use native.Mathlib.Omega.{arith}
 use native.Mathlib.Decide.{ℕ-discrete}
-use lib.Dec.{leb, eqb}
 use lib.ListN.{replicate}
 use borrow.Author.Tests.{le-leb, lt-leb, ne-eqb}
 use Rattle.table.specs.Numbers.{blankCell}
 use Rattle.table.specs.Cells.{mostCell}
-use Rattle.layout.specs.Words.{Item, itemsOf, formatOf}
+use Rattle.layout.specs.Words.{Item, itemsOf}
 use Rattle.layout.specs.Place.{cellsAfter, volume}
 use Rattle.layout.specs.Pages.{Line, Page, bytesOfLines, bytesOfPages, pagesOf}
 use Rattle.layout.specs.Lists.{All, only}

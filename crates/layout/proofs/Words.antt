@@ -1,15 +1,15 @@
 -- From signs to items nothing is lost: the words are the signs that end no word, in order, and the parts of a word are the word. So the items of printed
 -- signs fit, and they still do where lines are ended by choice.
-use Prim.Native.Nat.{ℕ, zero, suc, _≤_, _<_}
-use mathlib.Core.Bool.{Bool, true, false, cond, not}
+use Prim.Native.Nat.{ℕ, zero, suc, _≤_}
+use mathlib.Core.Bool.{Bool, true, false, cond}
 use mathlib.Core.List.{List, [], _∷_, _++_, append-assoc, append-nil, flatten, map}
 use mathlib.Core.Logic.{_≢_}
 use mathlib.Core.Option.{Option, none, some}
-use mathlib.Core.Path.{_≡_, refl, sym, ap, _∙_}
+use mathlib.Core.Path.{_≡_, refl, ap}
 use native.Mathlib.Omega.{arith}
 use lib.Dec.{leb, eqb}
 use lib.ListN.{length, take, drop, take-append-drop, length-take, length-drop}
-use borrow.Author.Tests.{le-leb, lt-leb, ne-eqb, leb-true, leb-false, eqb-true, eqb-false}
+use borrow.Author.Tests.{ne-eqb, leb-true, leb-false, eqb-false}
 use Rattle.table.specs.Numbers.{blankCell, signLineEnd, signEmptyLine, signParagraph, signPageEnd}
 use Rattle.table.specs.Cells.{mostCell}
 use Rattle.table.specs.Search.{isThere}
