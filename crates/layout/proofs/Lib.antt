@@ -1,4 +1,6 @@
 pub mod Moves
+pub mod Permitted
+pub mod NoLater
 pub mod Lists
 pub mod Kept
 pub mod Counts

@@ -1,8 +1,10 @@
 -- Laws of the moves, case by case: what each move does, by the fact that the paper names and not by a test.
-use Prim.Native.Nat.{ℕ, _+_, _≤_, _<_}
+use Prim.Native.Nat.{ℕ, zero, suc, _+_, _≤_, _<_}
 use mathlib.Core.Bool.{Bool, true, false, cond, _&&_}
 use mathlib.Core.List.{List, [], _∷_, _++_}
+use mathlib.Core.Logic.{_⊎_, inl, inr}
 use mathlib.Core.Path.{_≡_, refl, sym, _∙_, ap}
+use native.Mathlib.Decide.{decLe, decLt}
 use native.Mathlib.Omega.{arith}
 use lib.Dec.{leb, ltb, eqb}
 use lib.ListN.{length}
@@ -102,3 +104,100 @@ pub word-overflows : (W P : ℕ) (p : Place) (n : ℕ) → 0 < p .column → W <
     → afterWord W P p n ≡ afterCells (afterLine P p) (openingBlanks W (afterLine P p) n) n
 unfolding afterWord joins
 word-overflows W P p n h wide = rw (holds-cell p h, lt-leb (p .column + gapBlanks + n) W wide)
+
+-- ---- 71 and 73, by whether the page has a line once the line has ended
+
+pub empty-line-below : (P : ℕ) (p : Place) → 0 < afterLineEnd P p .line → afterEmptyLine P p ≡ afterLine P (afterLineEnd P p)
+unfolding afterEmptyLine
+empty-line-below P p h = rw (has-line (afterLineEnd P p) h)
+
+pub empty-line-at-top : (P : ℕ) (p : Place) → afterLineEnd P p .line ≡ 0 → afterEmptyLine P p ≡ afterLineEnd P p
+unfolding afterEmptyLine
+empty-line-at-top P p h = rw (has-none (afterLineEnd P p) h)
+
+pub page-end-lined : (P : ℕ) (p : Place) → 0 < afterLineEnd P p .line → afterPageEnd P p ≡ afterPage (afterLineEnd P p)
+unfolding afterPageEnd
+page-end-lined P p h = rw (has-line (afterLineEnd P p) h)
+
+pub page-end-empty : (P : ℕ) (p : Place) → afterLineEnd P p .line ≡ 0 → afterPageEnd P p ≡ afterLineEnd P p
+unfolding afterPageEnd
+page-end-empty P p h = rw (has-none (afterLineEnd P p) h)
+
+-- ---- After a line's end the line is empty, and the page has room for a line
+
+pub record Fresh (P : ℕ) (p : Place) : Type 0 where
+  pub room : p .line < P
+  pub empty : p .column ≡ 0
+
+pub line-is-fresh : (P : ℕ) (p : Place) → p .line < P → Fresh P (afterLine P p)
+line-is-fresh P p h = go (decLt (p .line + 1) P)
+  where
+    go : Dec (p .line + 1 < P) → Fresh P (afterLine P p)
+    go (yes l) = rw (line-goes-on P p l) (record { room = l; empty = refl })
+    go (no d) = rw (line-fills P p (omega arith)) (record { room = omega arith; empty = refl })
+
+pub held-or-empty : (n : ℕ) → (n ≡ 0) ⊎ (0 < n)
+held-or-empty zero = inl refl
+held-or-empty (suc n) = inr (omega arith)
+
+pub line-end-is-fresh : (P : ℕ) (p : Place) → p .line < P → Fresh P (afterLineEnd P p)
+line-end-is-fresh P p h = go (held-or-empty (p .column))
+  where
+    go : (p .column ≡ 0) ⊎ (0 < p .column) → Fresh P (afterLineEnd P p)
+    go (inl e) = rw (line-end-empty P p e) (record { room = h; empty = e })
+    go (inr l) = rw (line-end-held P p l) (line-is-fresh P p h)
+
+pub empty-line-is-fresh : (P : ℕ) (p : Place) → p .line < P → Fresh P (afterEmptyLine P p)
+empty-line-is-fresh P p h = go (held-or-empty (afterLineEnd P p .line))
+  where
+    go : (afterLineEnd P p .line ≡ 0) ⊎ (0 < afterLineEnd P p .line) → Fresh P (afterEmptyLine P p)
+    go (inl e) = rw (empty-line-at-top P p e) (line-end-is-fresh P p h)
+    go (inr l) = rw (empty-line-below P p l) (line-is-fresh P (afterLineEnd P p) (line-end-is-fresh P p h .room))
+
+pub page-end-is-fresh : (P : ℕ) (p : Place) → p .line < P → Fresh P (afterPageEnd P p)
+unfolding afterPage
+page-end-is-fresh P p h = go (held-or-empty (afterLineEnd P p .line))
+  where
+    go : (afterLineEnd P p .line ≡ 0) ⊎ (0 < afterLineEnd P p .line) → Fresh P (afterPageEnd P p)
+    go (inl e) = rw (page-end-empty P p e) (line-end-is-fresh P p h)
+    go (inr l) = rw (page-end-lined P p l) (record { room = omega arith; empty = refl })
+
+pub word-has-room : (W P : ℕ) (p : Place) (n : ℕ) → p .line < P → afterWord W P p n .line < P
+unfolding afterCells
+word-has-room W P p n h = go (held-or-empty (p .column)) (decLe (p .column + gapBlanks + n) W)
+  where
+    go : (p .column ≡ 0) ⊎ (0 < p .column) → Dec (p .column + gapBlanks + n ≤ W) → afterWord W P p n .line < P
+    go (inl e) d = rw (word-starts W P p n e) h
+    go (inr l) (yes f) = rw (word-joins W P p n l f) h
+    go (inr l) (no d) = rw (word-overflows W P p n l (omega arith)) (line-is-fresh P p h .room)
+
+-- a word that doesn't fit is placed as on the next line
+pub word-on-next : (W P : ℕ) (p : Place) (n : ℕ) → p .line < P → 0 < p .column → W < p .column + gapBlanks + n
+    → afterWord W P p n ≡ afterWord W P (afterLine P p) n
+word-on-next W P p n room h wide = word-overflows W P p n h wide ∙ sym (word-starts W P (afterLine P p) n (line-is-fresh P p room .empty))
+
+-- 72 waits through the end of a line
+pub line-keeps-opening : (P : ℕ) (p : Place) → afterLine P p .opening ≡ p .opening
+unfolding afterLine
+line-keeps-opening P p = go (fillsPage P p) refl
+  where
+    go : (b : Bool) → fillsPage P p ≡ b → afterLine P p .opening ≡ p .opening
+    go true e = rw e
+    go false e = rw e
+
+pub line-end-keeps-opening : (P : ℕ) (p : Place) → afterLineEnd P p .opening ≡ p .opening
+line-end-keeps-opening P p = go (held-or-empty (p .column))
+  where
+    go : (p .column ≡ 0) ⊎ (0 < p .column) → afterLineEnd P p .opening ≡ p .opening
+    go (inl e) = rw (line-end-empty P p e)
+    go (inr l) = rw (line-end-held P p l) (line-keeps-opening P p)
+
+-- and it is spent on the first word
+pub word-spends-opening : (W P : ℕ) (p : Place) (n : ℕ) → afterWord W P p n .opening ≡ false
+unfolding afterCells
+word-spends-opening W P p n = go (held-or-empty (p .column)) (decLe (p .column + gapBlanks + n) W)
+  where
+    go : (p .column ≡ 0) ⊎ (0 < p .column) → Dec (p .column + gapBlanks + n ≤ W) → afterWord W P p n .opening ≡ false
+    go (inl e) d = rw (word-starts W P p n e)
+    go (inr l) (yes f) = rw (word-joins W P p n l f)
+    go (inr l) (no d) = rw (word-overflows W P p n l (omega arith))

@@ -3,12 +3,18 @@
 use Prim.Native.Nat.{ℕ, _-_}
 use Prim.Native.String.{String}
 use mathlib.Core.List.{List, [], _∷_, _++_, map}
+use mathlib.Core.Bool.{Bool, true, false}
 use mathlib.Core.Path.{_≡_, refl}
+use native.Mathlib.Omega.{arith}
 use lib.ListN.{length, replicate}
-use Rattle.table.specs.Example.{image, ascii}
+use Rattle.table.specs.Example.{image, table, ascii}
+use Rattle.translation.specs.Pieces.{piecesOf, signsOf}
+use Rattle.layout.specs.Words.{Item, word, itemsOf}
+use Rattle.layout.specs.Permitted.{Permitted}
 use Rattle.layout.specs.Pages.{pagesOf, bytesOfPages}
-use Rattle.layout.specs.Emboss.{Outcome, embossing, number, place, written, pieces, lines, pages}
+use Rattle.layout.specs.Emboss.{Outcome, embossing, blankFollows, number, place, written, pieces, lines, pages}
 use Rattle.layout.specs.Computing.{computing}
+use Rattle.layout.proofs.Permitted.{choices-permitted}
 
 -- ---- A row: the text, the output, and the counts of pieces, lines and pages
 
@@ -85,7 +91,23 @@ corners-embossed : map embossed corners ≡ map expected corners
 unfolding computing row shown lent embossed expected corners
 corners-embossed = refl
 
--- the pages of an output, as lists of lines, have the output as their bytes
+-- ---- A permitted layout that isn't ours: `AAAA AAA` at W 8 on two lines
+
+four-and-three : List Item
+four-and-three = word (1 ∷ 1 ∷ 1 ∷ 1 ∷ []) ∷ word (1 ∷ 1 ∷ 1 ∷ []) ∷ []
+
+four-and-three-items : itemsOf 8 (signsOf (piecesOf table blankFollows (ascii "AAAA AAA"))) ≡ four-and-three
+unfolding computing four-and-three
+four-and-three-items = refl
+
+two-lines-permitted :
+    Permitted 8 2 four-and-three
+    (record { spots = record { line = 0; column = 4 } ∷ record { line = 1; column = 3 } ∷ []; lines = 2; pages = 1 })
+unfolding computing four-and-three
+two-lines-permitted = choices-permitted 8 2 (omega arith) four-and-three (false ∷ true ∷ [])
+
+-- ---- The pages of an output, as lists of lines, have the output as their bytes
+
 pages-of-rows : map (λ (r : Row). bytesOfPages (pagesOf (r .output))) (twelve ++ corners) ≡ map (λ (r : Row). r .output) (twelve ++ corners)
 unfolding computing row twelve corners
 pages-of-rows = refl

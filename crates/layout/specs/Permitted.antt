@@ -35,7 +35,7 @@ opened s = record { lines = s .lines; pages = s .pages; onPage = s .onPage; colu
 
 -- the page ends
 abbrev pub paged : Stage → Stage
-paged s = record { lines = s .lines; pages = s .pages + 1; onPage = 0; column = s .column; opening = s .opening }
+paged s = record { lines = s .lines; pages = s .pages + 1; onPage = 0; column = 0; opening = s .opening }
 
 -- the line ends; a page ends by itself after P lines
 abbrev pub lined : Stage → Stage

@@ -1,11 +1,12 @@
 -- Demand 3: our layout as a list of spots with its lines and pages, and the layouts by choices: a choice of yes before a word ends its line, if that
 -- holds a cell.
-use Prim.Native.Nat.{ℕ}
+use Prim.Native.Nat.{ℕ, suc, _≤_}
 use mathlib.Core.Bool.{Bool, true, false}
-use mathlib.Core.List.{List, [], _∷_}
+use mathlib.Core.List.{List, [], _∷_, _++_}
+use mathlib.Core.Path.{_≡_}
 use lib.ListN.{length}
 use Rattle.layout.specs.Words.{Item, word, lineEnd, emptyLine, paragraph, pageEnd}
-use Rattle.layout.specs.Place.{start, afterWord, afterItem, volumeEnd}
+use Rattle.layout.specs.Place.{start, afterItem, volumeEnd}
 use Rattle.layout.specs.Permitted.{Spot, Layout}
 use Rattle.layout.specs.declared.Place.{Place}
 
@@ -13,19 +14,32 @@ use Rattle.layout.specs.declared.Place.{Place}
 abbrev pub spot : Place → Spot
 spot p = record { line = p .lines; column = p .column }
 
+-- a word has a spot, and a format sign has none
+unfoldable pub spotAfter : Place → Item → List Spot
+spotAfter q (word cells) = spot q ∷ []
+spotAfter q lineEnd = []
+spotAfter q emptyLine = []
+spotAfter q paragraph = []
+spotAfter q pageEnd = []
+
 -- where each word ends, from a place on
 unfoldable pub spotsFrom : ℕ → ℕ → Place → List Item → List Spot
 spotsFrom W P p [] = []
-spotsFrom W P p (word cells ∷ items) = let q = afterWord W P p (length cells) in spot q ∷ spotsFrom W P q items
-spotsFrom W P p (lineEnd ∷ items) = spotsFrom W P (afterItem W P p lineEnd) items
-spotsFrom W P p (emptyLine ∷ items) = spotsFrom W P (afterItem W P p emptyLine) items
-spotsFrom W P p (paragraph ∷ items) = spotsFrom W P (afterItem W P p paragraph) items
-spotsFrom W P p (pageEnd ∷ items) = spotsFrom W P (afterItem W P p pageEnd) items
+spotsFrom W P p (item ∷ items) = let q = afterItem W P p item in spotAfter q item ++ spotsFrom W P q items
 
 -- our layout
 unfoldable pub layoutOf : ℕ → ℕ → List Item → Layout
 layoutOf W P items =
     record { spots = spotsFrom W P start items; lines = volumeEnd W P items .lines; pages = volumeEnd W P items .pages }
+
+-- how many words there are
+unfoldable pub wordCount : List Item → ℕ
+wordCount [] = 0
+wordCount (word cells ∷ items) = suc (wordCount items)
+wordCount (lineEnd ∷ items) = wordCount items
+wordCount (emptyLine ∷ items) = wordCount items
+wordCount (paragraph ∷ items) = wordCount items
+wordCount (pageEnd ∷ items) = wordCount items
 
 -- ---- Choices: one for each word, and no where the list is too short
 
@@ -39,3 +53,26 @@ withChoices choices (lineEnd ∷ items) = lineEnd ∷ withChoices choices items
 withChoices choices (emptyLine ∷ items) = emptyLine ∷ withChoices choices items
 withChoices choices (paragraph ∷ items) = paragraph ∷ withChoices choices items
 withChoices choices (pageEnd ∷ items) = pageEnd ∷ withChoices choices items
+
+-- a layout that arises from choices, one for each word
+pub record ByChoices (W P : ℕ) (items : List Item) (layout : Layout) : Type 0 where
+  pub choices : List Bool
+  pub one-each : length choices ≡ wordCount items
+  pub same : layoutOf W P (withChoices choices items) ≡ layout
+
+-- ---- No later: the words of one layout against those of another
+
+-- on no later line of the volume, and where the line is equal in no later column
+pub record NoLaterSpot (a b : Spot) : Type 0 where
+  pub line : a .line ≤ b .line
+  pub column : a .line ≡ b .line → a .column ≤ b .column
+
+-- word by word
+pub data NoLaterSpots : List Spot → List Spot → Type 0 where
+  no-word : NoLaterSpots [] []
+  each-word : {a b : Spot} {ours theirs : List Spot} → NoLaterSpot a b → NoLaterSpots ours theirs → NoLaterSpots (a ∷ ours) (b ∷ theirs)
+
+pub record NoLater (a b : Layout) : Type 0 where
+  pub spots : NoLaterSpots (a .spots) (b .spots)
+  pub lines : a .lines ≤ b .lines
+  pub pages : a .pages ≤ b .pages

@@ -1,3 +1,9 @@
 pub mod Search
+pub mod Lists
+pub mod Tests
+pub mod Frame
+pub mod RightRecords
+pub mod FirstWrong
 pub mod Grouping
+pub mod Refusals
 pub mod Example
