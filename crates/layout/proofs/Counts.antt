@@ -2,7 +2,7 @@
 -- have; a cell is at most 63, so that it is no mark.
 use Prim.Native.Nat.{ℕ, _+_, _<_}
 use mathlib.Core.Bool.{Bool, true, false}
-use mathlib.Core.List.{List, [], _∷_, _++_}
+use mathlib.Core.List.{List, [], _∷_, _++_, append-nil}
 use mathlib.Core.Path.{_≡_, refl}
 use native.Mathlib.Omega.{arith}
 use lib.Dec.{eqb}
@@ -12,10 +12,10 @@ use Rattle.table.specs.Numbers.{blankCell}
 use Rattle.table.specs.Cells.{mostCell}
 use Rattle.layout.specs.Numbers.{lineMark, pageMark}
 use Rattle.layout.specs.Words.{Item}
-use Rattle.layout.specs.Place.{start, cellsAfter, afterItems, itemsBytes, volumeEnd, volume}
+use Rattle.layout.specs.Place.{start, cellsAfter, afterItem, itemBytes, afterItems, itemsBytes, volumeEnd, volume}
 use Rattle.layout.specs.Pages.{count}
 use Rattle.layout.specs.Lists.{All, empty, _and_}
-use Rattle.layout.specs.Fitting.{WordFits, Fitting}
+use Rattle.layout.specs.Fitting.{WordFits, ItemFits, Fitting}
 use Rattle.layout.specs.Right.{IsCell}
 use Rattle.layout.specs.declared.Place.{Place}
 use Rattle.layout.proofs.Lists.{all-append, all-replicate, all-weaker}
@@ -33,7 +33,7 @@ length-after blanks w = simp (length-append, length-replicate)
 
 -- ---- Counting
 
-pub count-append : (b : ℕ) (xs ys : List ℕ) → count b (xs ++ ys) ≡ count b xs + count b ys
+count-append : (b : ℕ) (xs ys : List ℕ) → count b (xs ++ ys) ≡ count b xs + count b ys
 unfolding count
 count-append b [] ys = omega arith
 count-append b (x ∷ xs) ys = go (eqb x b) refl (count-append b xs ys)
@@ -42,7 +42,7 @@ count-append b (x ∷ xs) ys = go (eqb x b) refl (count-append b xs ys)
     go true e h = rw (e, count) (omega arith)
     go false e h = rw (e, count) h
 
-pub no-mark-in-cells : (b : ℕ) {xs : List ℕ} → mostCell < b → All IsCell xs → count b xs ≡ 0
+no-mark-in-cells : (b : ℕ) {xs : List ℕ} → mostCell < b → All IsCell xs → count b xs ≡ 0
 unfolding count
 no-mark-in-cells b l empty = refl
 no-mark-in-cells b l (_and_ {x} h hs) = rw (ne-eqb x b (λ e. omega arith), count) (no-mark-in-cells b l hs)
@@ -85,6 +85,10 @@ module _ (W P : ℕ) (p : Place) where
   unfolding count
   items-counted items fits room =
       items-keep W P _ counted p items fits room (record { written = omega arith; lines = omega arith; pages = omega arith })
+
+  pub item-counted : (item : Item) → ItemFits W item → p .line < P → Counted p (itemBytes W P p item) (afterItem W P p item)
+  unfolding itemsBytes afterItems
+  item-counted item fits room = rw append-nil at (items-counted (item ∷ []) (fits and empty) room)
 
 -- ---- The whole volume
 

@@ -1,6 +1,7 @@
--- The spots of our layout are those of the bytes. The invariant: what the sheet has so far is drawn, and the place says where its line stands in the volume. A
--- word goes on the end of that line, so no word before it moves; an empty line at the end shows nothing.
+-- The spots of our layout are those of the bytes. The invariant: what the sheet has so far is drawn, and the place says where its line stands in the
+-- volume. A word goes on the end of that line, so no word before it moves; an empty line at the end shows nothing.
 use Prim.Native.Nat.{ℕ, zero, suc, _+_, _-_, _≤_, _<_}
+use mathlib.Core.Bool.{Bool}
 use mathlib.Core.List.{List, [], _∷_, _++_, append-assoc, append-nil, flatten}
 use mathlib.Core.Logic.{_≢_}
 use mathlib.Core.Path.{_≡_, refl, sym, ap, _∙_}
@@ -13,14 +14,16 @@ use Rattle.layout.specs.Words.{Item}
 use Rattle.layout.specs.Place.{start, cellsAfter, volume}
 use Rattle.layout.specs.Pages.{Line}
 use Rattle.layout.specs.Permitted.{Spot}
-use Rattle.layout.specs.Spots.{spot, spotsFrom}
+use Rattle.layout.specs.Spots.{spotsFrom, withChoices}
 use Rattle.layout.specs.Fitting.{Fitting, wordsIn}
 use Rattle.layout.specs.Drawn.{volumeLines, lineAt, wordAt, spotAt, StandsIn, LiesIn, WordOrBlank, in-word, is-blank, Drawn}
 use Rattle.layout.specs.declared.Place.{Place}
 use Rattle.layout.proofs.Lists.{flatten-append}
 use Rattle.layout.proofs.Kept.{Kept, volume-keeps}
 use Rattle.layout.proofs.Counts.{cells-after}
-use Rattle.layout.proofs.Sheet.{Sheet, unmarked, fed, turned, read, reads, reads-append, reads-cells, nil-of-length, Standing, standing-kept, unmarked-standing, volume-sheet}
+use Rattle.layout.proofs.Sheet.{Sheet, unmarked, fed, turned, read, reads, reads-append, reads-cells}
+use Rattle.layout.proofs.Sheet.{nil-of-length, Standing, standing-kept, unmarked-standing, volume-sheet}
+use Rattle.layout.proofs.Words.{choices-keep-words, fitting-with-choices}
 
 -- ---- Lines by number
 
@@ -68,11 +71,12 @@ last-holds : (line : Line) (blanks : ℕ) (w : List ℕ) → StandsIn (line ++ c
 unfolding cellsAfter
 last-holds line blanks w =
     let front = line ++ replicate blanks blankCell in
-    let size : length front ≡ length line + blanks + length w - length w = simp (length-append, length-replicate) (omega arith) in
+    let at = length line + blanks + length w - length w in
+    let size : length front ≡ at = simp (length-append, length-replicate) (omega arith) in
     record {
       least = omega arith;
       most = simp (length-append, length-replicate) (omega arith);
-      cells = rw (← (append-assoc line (replicate blanks blankCell) w), drop-at front w (length line + blanks + length w - length w) size) (take-length w);
+      cells = rw (← (append-assoc line (replicate blanks blankCell) w), drop-at front w at size) (take-length w);
     }
 
 module _ (lines : List Line) (line : Line) (words : List (List ℕ)) (spots : List Spot) (d : Drawn (lines ++ line ∷ []) words spots)
@@ -150,9 +154,9 @@ module _ (lines : List Line) (line : Line) (words : List (List ℕ)) (spots : Li
       go : Dec (x < length line + blanks) → WordOrBlank after (words ++ w ∷ []) (spots ++ s ∷ []) l x
       go (yes b) =
           let at : x ≡ length line + k = omega arith in
-          is-blank
-          (rw (here l longer n, at, getD-append-add line (cellsAfter blanks w) k blankCell, List·getD-append (replicate blanks blankCell) w blankCell k (rw length-replicate (omega arith)))
-          (getD-replicate blanks k blankCell blankCell (omega arith)))
+          let past-line = getD-append-add line (cellsAfter blanks w) k blankCell in
+          let in-blanks = List·getD-append (replicate blanks blankCell) w blankCell k (rw length-replicate (omega arith)) in
+          is-blank (rw (here l longer n, at, past-line, in-blanks) (getD-replicate blanks k blankCell blankCell (omega arith)))
       go (no b) =
           let size : length longer ≡ length line + (blanks + length w) = simp (length-append, length-replicate) in
           in-word {i = length words}
@@ -213,8 +217,8 @@ placed-kept W P =
           record {
             standing = standing-kept W P .cells bytes words spots p blanks w fits h (r .standing);
             drawn =
-                rw (reads-append unmarked bytes, reads-cells s (cells-after blanks fits))
-                (drawn-on (flatten (s .pages) ++ s .lines) (s .line) words spots (r .drawn) blanks w _ (rw length-append (omega arith)) (omega arith));
+                let on = drawn-on (flatten (s .pages) ++ s .lines) (s .line) words spots (r .drawn) blanks w in
+                rw (reads-append unmarked bytes, reads-cells s (cells-after blanks fits)) (on _ (rw length-append (omega arith)) (omega arith));
           };
       line = λ bytes words spots p h r.
           record {
@@ -245,3 +249,9 @@ unfolding reads flatten
 spots-are-the-bytes W P items fits room =
     let placed = volume-keeps W P _ (placed-kept W P) items fits room (record { standing = unmarked-standing W P; drawn = nothing-drawn }) in
     same-lines (λ l. sym (empty-at-end (volumeLines (volume W P items)) l)) (rw (volume-sheet W P items fits room, append-nil) at (placed .drawn))
+
+-- so are those of every layout by choices, of the same words
+pub choices-are-the-bytes : (W P : ℕ) (items : List Item) → Fitting W items → 0 < P → (choices : List Bool)
+    → let chosen = withChoices choices items in Drawn (volumeLines (volume W P chosen)) (wordsIn items) (spotsFrom W P start chosen)
+choices-are-the-bytes W P items fits room choices =
+    rw (choices-keep-words choices items) at (spots-are-the-bytes W P (withChoices choices items) (fitting-with-choices choices items fits) room)

@@ -1,9 +1,10 @@
--- What every move keeps, the volume keeps. `R` relates the bytes written, the words placed, their spots and the place. There are four moves: cells go on
--- the line, a 64 ends it, a 65 ends the page, and the next word is told to open a paragraph. Whatever `R` all four keep holds after any items that fit.
+-- What every move keeps, the volume keeps. `R` relates the bytes written, the words placed, their spots and the place. There are four moves: cells go
+-- on the line, a 64 ends it, a 65 ends the page, and the next word is told to open a paragraph. Whatever `R` all four keep, it holds after any items
+-- that fit.
 use Prim.Native.Nat.{ℕ, _+_, _≤_, _<_}
 use mathlib.Core.Bool.{Bool, true, false, cond, _&&_}
 use mathlib.Core.List.{List, [], _∷_, _++_, append-assoc, append-nil}
-use mathlib.Core.Logic.{_≢_}
+use mathlib.Core.Logic.{_≢_, _⊎_, inl, inr}
 use mathlib.Core.Path.{_≡_, refl}
 use native.Mathlib.Omega.{arith}
 use lib.Dec.{leb, ltb, eqb}
@@ -42,10 +43,11 @@ use Rattle.layout.specs.Place.{
   volume,
 }
 use Rattle.layout.specs.Permitted.{Spot}
-use Rattle.layout.specs.Spots.{spot, spotsFrom}
+use Rattle.layout.specs.Spots.{spot, spotAfter, spotsFrom}
 use Rattle.layout.specs.Lists.{empty, _and_}
 use Rattle.layout.specs.Fitting.{WordFits, Fitting, wordsIn}
 use Rattle.layout.specs.declared.Place.{Place}
+use Rattle.layout.proofs.Moves.{line-is-fresh, line-end-is-fresh, page-end-lined, page-end-empty, held-or-empty}
 
 -- ---- The four moves of a place
 
@@ -79,23 +81,7 @@ pub record Kept (W P : ℕ) (R : List ℕ → List (List ℕ) → List Spot → 
       → R bytes words spots p → R (bytes ++ pageMark ∷ []) words spots (paged p)
   pub opens : (bytes : List ℕ) (words : List (List ℕ)) (spots : List Spot) (p : Place) → R bytes words spots p → R bytes words spots (opened p)
 
--- ---- Facts of the moves: a line's end leaves an empty line, and what opens a line fits
-
-line-column : (P : ℕ) (p : Place) → afterLine P p .column ≡ 0
-unfolding afterLine
-line-column P p = go (fillsPage P p) refl
-  where
-    go : (b : Bool) → fillsPage P p ≡ b → afterLine P p .column ≡ 0
-    go true e = rw e
-    go false e = rw e
-
-line-end-column : (P : ℕ) (p : Place) → afterLineEnd P p .column ≡ 0
-unfolding afterLineEnd holdsCell
-line-end-column P p = go (ltb 0 (p .column)) refl
-  where
-    go : (b : Bool) → ltb 0 (p .column) ≡ b → afterLineEnd P p .column ≡ 0
-    go true e = rw e (line-column P p)
-    go false e = let h = ltb-false 0 (p .column) e in rw e (omega arith)
+-- ---- What opens a line fits
 
 opening-fits : (W : ℕ) (p : Place) (n : ℕ) → n ≤ W → openingBlanks W p n + n ≤ W
 unfolding openingBlanks
@@ -125,18 +111,13 @@ pub record AtEnd (p : Place) : Type 0 where
   pub column : p .column ≡ 0
   pub line : p .line ≡ 0
 
-pub volume-ends : (W P : ℕ) (items : List Item) → AtEnd (volumeEnd W P items)
-unfolding volumeEnd ended afterPageEnd hasLine afterPage
-volume-ends W P items = rw (place-at-the-end W P start items) (go (ltb 0 (q .line)) refl)
+page-ends : (P : ℕ) (p : Place) → p .line < P → AtEnd (afterPageEnd P p)
+unfolding afterPage
+page-ends P p h = go (held-or-empty (afterLineEnd P p .line))
   where
-    q : Place
-    q = afterLineEnd P (afterItems W P start items)
-
-    go : (b : Bool) → ltb 0 (q .line) ≡ b → AtEnd (afterPageEnd P (afterItems W P start items))
-    go true e = rw e (record { column = refl; line = refl })
-    go false e =
-        let h = ltb-false 0 (q .line) e in
-        rw e (record { column = line-end-column P (afterItems W P start items); line = omega arith })
+    go : (afterLineEnd P p .line ≡ 0) ⊎ (0 < afterLineEnd P p .line) → AtEnd (afterPageEnd P p)
+    go (inl e) = rw (page-end-empty P p e) (record { column = line-end-is-fresh P p h .empty; line = e })
+    go (inr l) = rw (page-end-lined P p l) (record { column = refl; line = refl })
 
 -- ---- The items, by their moves
 
@@ -194,7 +175,7 @@ module _ (W P : ℕ) (R : List ℕ → List (List ℕ) → List Spot → Place �
             → Held (bytes ++ pageEndBytes P p) words spots (afterPageEnd P p)
         go true e r =
             let h = ltb-true 0 (q .line) e in
-            let r′ = kept .page (bytes ++ lineEndBytes P p) words spots q (line-end-column P p) h (omega arith) (r .holds) in
+            let r′ = kept .page (bytes ++ lineEndBytes P p) words spots q (line-end-is-fresh P p (held .room) .empty) h (omega arith) (r .holds) in
             rw e (record { room = omega arith; holds = rw append-assoc at r′ })
         go false e r = rw (e, append-nil) r
 
@@ -230,7 +211,8 @@ module _ (W P : ℕ) (R : List ℕ → List (List ℕ) → List Spot → Place �
         go true true e f = rw (e, f) (cells-kept bytes words spots p held w fits gapBlanks (leb-true _ _ f))
         go true false e f =
             let r = line-kept bytes words spots p held in
-            rw (e, f) (rw append-assoc at (opening-kept (bytes ++ lineBytes P p) words spots (afterLine P p) r w fits (line-column P p)))
+            let c = line-is-fresh P p (held .room) .empty in
+            rw (e, f) (rw append-assoc at (opening-kept (bytes ++ lineBytes P p) words spots (afterLine P p) r w fits c))
         go false c e f =
             let h = ltb-false 0 (p .column) e in
             rw e (opening-kept bytes words spots p held w fits (omega arith))
@@ -238,7 +220,7 @@ module _ (W P : ℕ) (R : List ℕ → List (List ℕ) → List Spot → Place �
   items-held : (bytes : List ℕ) (words : List (List ℕ)) (spots : List Spot) (p : Place) (items : List Item) → Fitting W items
       → Held bytes words spots p
       → Held (bytes ++ itemsBytes W P p items) (words ++ wordsIn items) (spots ++ spotsFrom W P p items) (afterItems W P p items)
-  unfolding afterItem itemBytes afterItems itemsBytes wordsIn spotsFrom
+  unfolding afterItem itemBytes afterItems itemsBytes wordsIn spotAfter spotsFrom
   items-held bytes words spots p [] empty held = simp append-nil held
   items-held bytes words spots p (word w ∷ items) (fits and rest) held =
       let q = afterWord W P p (length w) in
@@ -257,9 +239,14 @@ module _ (W P : ℕ) (R : List ℕ → List (List ℕ) → List Spot → Place �
       → R (itemsBytes W P p items) (wordsIn items) (spotsFrom W P p items) (afterItems W P p items)
   items-keep p items fits room r = items-held [] [] [] p items fits (record { room = room; holds = r }) .holds
 
-  pub volume-keeps : (items : List Item) → Fitting W items → 0 < P → R [] [] [] start
-      → R (volume W P items) (wordsIn items) (spotsFrom W P start items) (volumeEnd W P items)
-  unfolding volume volumeEnd ended
-  volume-keeps items fits room r =
-      let h = items-held [] [] [] start items fits (record { room = room; holds = r }) in
-      rw (bytes-to-the-end W P start items, place-at-the-end W P start items) (page-end-kept _ _ _ _ h .holds)
+  module _ (items : List Item) (fits : Fitting W items) (room : 0 < P) (outset : R [] [] [] start) where
+    at-the-end : Held (itemsBytes W P start items) (wordsIn items) (spotsFrom W P start items) (afterItems W P start items)
+    at-the-end = items-held [] [] [] start items fits (record { room = room; holds = outset })
+
+    pub volume-keeps : R (volume W P items) (wordsIn items) (spotsFrom W P start items) (volumeEnd W P items)
+    unfolding volume volumeEnd ended
+    volume-keeps = rw (bytes-to-the-end W P start items, place-at-the-end W P start items) (page-end-kept _ _ _ _ at-the-end .holds)
+
+    pub volume-ends : AtEnd (volumeEnd W P items)
+    unfolding volumeEnd ended
+    volume-ends = rw (place-at-the-end W P start items) (page-ends P (afterItems W P start items) (at-the-end .room))

@@ -7,6 +7,8 @@ use lib.ListN.{length, getD, take, drop, replicate}
 use native.Mathlib.Omega.{arith}
 use Rattle.layout.specs.Lists.{All, empty, _and_, only}
 
+-- ---- Each member of a list has a property
+
 pub all-append : {A : Type 0} {holds : A → Type 0} {xs ys : List A} → All holds xs → All holds ys → All holds (xs ++ ys)
 all-append empty k = k
 all-append (h and hs) k = h and all-append hs k
@@ -36,10 +38,18 @@ all-at empty i d l = absurd (omega arith)
 all-at (h and hs) zero d l = h
 all-at (h and hs) (suc i) d l = all-at hs i d (omega arith)
 
+pub all-of-places : {A : Type 0} {holds : A → Type 0} (xs : List A) (d : A) → ((i : ℕ) → i < length xs → holds (getD xs i d)) → All holds xs
+all-of-places [] d h = empty
+all-of-places (x ∷ xs) d h = h 0 (omega arith) and all-of-places xs d (λ i l. h (suc i) (omega arith))
+
+-- ---- Lists of lists
+
 pub flatten-append : {A : Type 0} (xs ys : List (List A)) → flatten (xs ++ ys) ≡ flatten xs ++ flatten ys
 unfolding flatten
 flatten-append [] ys = refl
 flatten-append (x ∷ xs) ys = rw (append-assoc, flatten-append xs ys)
+
+-- ---- The members that pass a test
 
 module _ (test : ℕ → Bool) where
   pub only-append : (xs ys : List ℕ) → only test (xs ++ ys) ≡ only test xs ++ only test ys
@@ -47,7 +57,8 @@ module _ (test : ℕ → Bool) where
   only-append [] ys = refl
   only-append (x ∷ xs) ys = go (test x) refl (only-append xs ys)
     where
-      go : (b : Bool) → test x ≡ b → only test (xs ++ ys) ≡ only test xs ++ only test ys → only test (x ∷ xs ++ ys) ≡ only test (x ∷ xs) ++ only test ys
+      go : (b : Bool) → test x ≡ b → only test (xs ++ ys) ≡ only test xs ++ only test ys
+          → only test (x ∷ xs ++ ys) ≡ only test (x ∷ xs) ++ only test ys
       go true e h = rw (e, only, h)
       go false e h = rw (e, only) h
 

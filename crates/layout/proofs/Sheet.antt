@@ -1,5 +1,5 @@
--- The pages of the bytes. Bytes are read one by one onto a sheet: the pages that have ended, the lines of the page that have, and the line that is being
--- filled. The invariant, kept by the moves: the sheet has the bytes, its lines and pages are right, and its sizes are those of the place.
+-- The pages of the bytes. Bytes are read one by one onto a sheet: the pages that have ended, the lines of the page that have, and the line that is
+-- being filled. The invariant, kept by the moves: the sheet has the bytes, its lines and pages are right, and its sizes are those of the place.
 use Prim.Native.Nat.{ℕ, _+_, _-_, _≤_, _<_}
 use mathlib.Core.Bool.{Bool, true, false}
 use mathlib.Core.List.{List, [], _∷_, _++_, append-assoc, append-nil, flatten}
@@ -19,7 +19,7 @@ use Rattle.layout.specs.Fitting.{WordFits, Fitting}
 use Rattle.layout.specs.Right.{IsCell, LineRight, PageRight}
 use Rattle.layout.specs.declared.Place.{Place}
 use Rattle.layout.proofs.Lists.{all-append, all-at, flatten-append}
-use Rattle.layout.proofs.Kept.{Kept, celled, lined, paged, opened, volume-ends, volume-keeps}
+use Rattle.layout.proofs.Kept.{Kept, celled, lined, paged, opened, AtEnd, volume-ends, volume-keeps}
 use Rattle.layout.proofs.Counts.{cells-after, length-after, lines-are-64s, pages-are-65s}
 
 -- ---- A sheet, and what a byte does to it: 65 ends the page, 64 the line, and any other goes on the line
@@ -65,7 +65,7 @@ reads-cells s empty = rw append-nil
 reads-cells s (_and_ {x = c} {xs = cells} h hs) = rw (read-cell s c h, reads-cells (inked s (c ∷ [])) hs, append-assoc)
 
 -- the pages that are read are `pagesOf`'s
-pub pages-read : (s : Sheet) (bytes : List ℕ) → reads s bytes .pages ≡ s .pages ++ pagesFrom (s .lines) (s .line) bytes
+pages-read : (s : Sheet) (bytes : List ℕ) → reads s bytes .pages ≡ s .pages ++ pagesFrom (s .lines) (s .line) bytes
 unfolding reads read pagesFrom
 pages-read s [] = sym (append-nil (s .pages))
 pages-read s (b ∷ bytes) = go (eqb b pageMark) (eqb b lineMark) refl refl (λ t. pages-read t bytes)
@@ -102,7 +102,12 @@ pub record Standing (W P : ℕ) (bytes : List ℕ) (s : Sheet) (p : Place) : Typ
   pub on-line : p .column ≡ length (s .line)
 
 empty-right : {W : ℕ} → LineRight W []
-empty-right = record { width = omega arith; cells = empty; no-trailing-blank = λ front e. let l = ap length e in omega (arith, simp length-append at l) }
+empty-right =
+    record {
+      width = omega arith;
+      cells = empty;
+      no-trailing-blank = λ front e. let l = ap length e in omega (arith, simp length-append at l);
+    }
 
 pub nil-of-length : {A : Type 0} (xs : List A) → length xs ≡ 0 → xs ≡ []
 nil-of-length [] e = refl
@@ -188,7 +193,8 @@ unfolding reads read
 standing-kept W P =
     record {
       cells = λ bytes words spots p blanks w fits h r.
-          rw (reads-append unmarked bytes, reads-cells (reads unmarked bytes) (cells-after blanks fits)) (inked-standing W P bytes _ p r blanks w fits h);
+          let inks = reads-cells (reads unmarked bytes) (cells-after blanks fits) in
+          rw (reads-append unmarked bytes, inks) (inked-standing W P bytes _ p r blanks w fits h);
       line = λ bytes words spots p h r. rw (reads-append unmarked bytes) (fed-standing W P bytes _ p r);
       page = λ bytes words spots p c l m r. rw (reads-append unmarked bytes) (turned-standing W P bytes _ p r c l m);
       opens = λ bytes words spots p r. opened-standing W P bytes _ p r;
@@ -216,12 +222,16 @@ module _ (W P : ℕ) (items : List Item) (fits : Fitting W items) (room : 0 < P)
   unfolding reads
   read-standing = volume-keeps W P _ (standing-kept W P) items fits room (unmarked-standing W P)
 
+  ends : AtEnd (volumeEnd W P items)
+  unfolding reads
+  ends = volume-ends W P _ (standing-kept W P) items fits room (unmarked-standing W P)
+
   -- the sheet of the volume: its pages, and nothing besides
   pub volume-sheet : reads unmarked (volume W P items) ≡ record { pages = pagesOf (volume W P items); lines = []; line = [] }
   unfolding pagesOf
   volume-sheet =
       let st = read-standing in
-      let end = volume-ends W P items in
+      let end = ends in
       λ i.
       record {
         pages = pages-read unmarked bytes i;

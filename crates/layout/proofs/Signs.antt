@@ -1,22 +1,23 @@
--- The cells of the pages that aren't blank are, in order, the cells of the words, and so the signs 1 to 63. A move writes blanks, a word or a mark, and of
--- these only the word has dots.
+-- The cells of the pages that aren't blank are, in order, the cells of the words, and so the signs 1 to 63. A move writes blanks, a word or a mark,
+-- and of these only the word has dots.
 use Prim.Native.Nat.{ℕ, _≤_, _<_}
 use mathlib.Core.Bool.{true}
 use mathlib.Core.List.{List, [], _∷_, append-nil, flatten}
 use mathlib.Core.Path.{_≡_, refl, _∙_}
 use native.Mathlib.Omega.{arith}
 use native.Mathlib.Decide.{ℕ-discrete}
-use lib.ListN.{replicate}
+use lib.ListN.{length, getD, replicate}
 use borrow.Author.Tests.{le-leb, lt-leb, ne-eqb}
 use Rattle.table.specs.Numbers.{blankCell}
 use Rattle.table.specs.Cells.{mostCell}
+use Rattle.translation.specs.Signs.{PrintedSign, cell, format}
 use Rattle.layout.specs.Words.{Item, itemsOf}
 use Rattle.layout.specs.Place.{cellsAfter, volume}
 use Rattle.layout.specs.Pages.{Line, Page, bytesOfLines, bytesOfPages, pagesOf}
-use Rattle.layout.specs.Lists.{All, only}
+use Rattle.layout.specs.Lists.{only}
 use Rattle.layout.specs.Fitting.{Dotted, WordFits, Fitting, wordsIn}
-use Rattle.layout.specs.Signs.{isDotted, endsWord, staysInWord, PrintedSign, cell, format}
-use Rattle.layout.proofs.Lists.{all-replicate, all-weaker, flatten-append, only-append, only-all, only-none, only-same}
+use Rattle.layout.specs.Signs.{isDotted, endsWord, staysInWord}
+use Rattle.layout.proofs.Lists.{all-replicate, all-weaker, all-of-places, flatten-append, only-append, only-all, only-none, only-same}
 use Rattle.layout.proofs.Kept.{Kept, volume-keeps}
 use Rattle.layout.proofs.Sheet.{pages-have-the-bytes}
 use Rattle.layout.proofs.Words.{format-signs, no-format, items-fit, items-join}
@@ -30,7 +31,9 @@ dotted c h = rw (le-leb 1 c (h .least), le-leb c mostCell (h .most))
 dots-after : {W : ℕ} (blanks : ℕ) {w : List ℕ} → WordFits W w → only isDotted (cellsAfter blanks w) ≡ w
 unfolding cellsAfter isDotted
 dots-after blanks {w} fits =
-    rw (only-append isDotted (replicate blanks blankCell) w, only-none isDotted (all-replicate blanks blankCell refl), only-all isDotted (all-weaker dotted (fits .dotted)))
+    let none = only-none isDotted (all-replicate blanks blankCell refl) in
+    let all = only-all isDotted (all-weaker dotted (fits .dotted)) in
+    rw (only-append isDotted (replicate blanks blankCell) w, none, all)
 
 dots-kept : (W P : ℕ) → Kept W P (λ bytes words spots p. only isDotted bytes ≡ flatten words)
 unfolding only isDotted flatten
@@ -80,9 +83,9 @@ signs-dotted g (format l m) =
     rw (ne-eqb g blankCell (λ e. omega arith), format-signs g l m, le-leb 1 g (omega arith), lt-leb g mostCell (omega arith))
 
 -- the cells of the pages that aren't blank are the signs 1 to 63, in order
-pub volume-has-the-signs : (W P : ℕ) {signs : List ℕ} → All PrintedSign signs → 1 ≤ W → 0 < P
+pub volume-has-the-signs : (W P : ℕ) (signs : List ℕ) → ((i : ℕ) → i < length signs → PrintedSign (getD signs i 0)) → 1 ≤ W → 0 < P
     → only isDotted (flatten (flatten (pagesOf (volume W P (itemsOf W signs))))) ≡ only isDotted signs
-volume-has-the-signs W P {signs} h wide room =
-    cells-are-the-words W P (itemsOf W signs) (items-fit wide h) room
+volume-has-the-signs W P signs printed wide room =
+    cells-are-the-words W P (itemsOf W signs) (items-fit wide signs printed) room
     ∙ items-join W signs
-    ∙ only-same staysInWord (all-weaker signs-dotted h)
+    ∙ only-same staysInWord (all-weaker signs-dotted (all-of-places signs 0 printed))

@@ -1,6 +1,6 @@
--- From signs to items nothing is lost: the words are the signs that end no word, in order, and the parts of a word are the word. So the items of printed
+-- From signs to items nothing is lost: the words are the signs that end no word, in order, and the parts of a word are the word. The items of printed
 -- signs fit, and they still do where lines are ended by choice.
-use Prim.Native.Nat.{ℕ, zero, suc, _≤_}
+use Prim.Native.Nat.{ℕ, zero, suc, _≤_, _<_}
 use mathlib.Core.Bool.{Bool, true, false, cond}
 use mathlib.Core.List.{List, [], _∷_, _++_, append-assoc, append-nil, flatten, map}
 use mathlib.Core.Logic.{_≢_}
@@ -8,21 +8,23 @@ use mathlib.Core.Option.{Option, none, some}
 use mathlib.Core.Path.{_≡_, refl, ap}
 use native.Mathlib.Omega.{arith}
 use lib.Dec.{leb, eqb}
-use lib.ListN.{length, take, drop, take-append-drop, length-take, length-drop}
+use lib.ListN.{length, getD, take, drop, take-append-drop, length-take, length-drop}
 use borrow.Author.Tests.{ne-eqb, leb-true, leb-false, eqb-false}
 use Rattle.table.specs.Numbers.{blankCell, signLineEnd, signEmptyLine, signParagraph, signPageEnd}
 use Rattle.table.specs.Cells.{mostCell}
 use Rattle.table.specs.Search.{isThere}
-use Rattle.layout.specs.Words.{Item, word, lineEnd, emptyLine, paragraph, pageEnd, formatOf, closed, gathered, wordsOf, cutWithin, parts, cutItem, cut, itemsOf}
+use Rattle.translation.specs.Signs.{PrintedSign, cell, format}
+use Rattle.layout.specs.Words.{Item, word, lineEnd, emptyLine, paragraph, pageEnd}
+use Rattle.layout.specs.Words.{formatOf, closed, gathered, wordsOf, cutWithin, parts, cutItem, cut, itemsOf}
 use Rattle.layout.specs.Spots.{withChoices}
 use Rattle.layout.specs.Lists.{All, empty, _and_, only}
 use Rattle.layout.specs.Fitting.{Dotted, WordFits, Fitting, wordsIn}
-use Rattle.layout.specs.Signs.{endsWord, staysInWord, PrintedSign, cell, format}
-use Rattle.layout.proofs.Lists.{all-append, all-take, all-drop, flatten-append}
+use Rattle.layout.specs.Signs.{endsWord, staysInWord}
+use Rattle.layout.proofs.Lists.{all-append, all-take, all-drop, all-of-places, flatten-append}
 
 -- ---- The words of items
 
-pub words-append : (xs ys : List Item) → wordsIn (xs ++ ys) ≡ wordsIn xs ++ wordsIn ys
+words-append : (xs ys : List Item) → wordsIn (xs ++ ys) ≡ wordsIn xs ++ wordsIn ys
 unfolding wordsIn
 words-append [] ys = refl
 words-append (word w ∷ xs) ys = ap {B = List (List ℕ)} (λ ws. w ∷ ws) (words-append xs ys)
@@ -133,7 +135,11 @@ format-signs g l m = go (eqb g signLineEnd) (eqb g signEmptyLine) (eqb g signPar
 pub no-format : (g : ℕ) → g ≤ mostCell → formatOf g ≡ none
 unfolding formatOf
 no-format g h =
-    rw (ne-eqb g signLineEnd (λ e. omega arith), ne-eqb g signEmptyLine (λ e. omega arith), ne-eqb g signParagraph (λ e. omega arith), ne-eqb g signPageEnd (λ e. omega arith))
+    let a = ne-eqb g signLineEnd (λ e. omega arith) in
+    let b = ne-eqb g signEmptyLine (λ e. omega arith) in
+    let c = ne-eqb g signParagraph (λ e. omega arith) in
+    let d = ne-eqb g signPageEnd (λ e. omega arith) in
+    rw (a, b, c, d)
 
 -- a printed sign that is no blank and no format sign is a cell with a dot
 no-gap : (g : ℕ) → PrintedSign g → g ≢ blankCell → formatOf g ≡ none → Dotted g
@@ -145,9 +151,10 @@ no-word : (g : ℕ) (f : Item) (items : List Item) → formatOf g ≡ some f →
 unfolding formatOf wordsIn
 no-word g (word w) items e = go (eqb g signLineEnd) (eqb g signEmptyLine) (eqb g signParagraph) (eqb g signPageEnd) e
   where
-    go : (a b c d : Bool)
-        → _≡_ {A = Option Item} (cond a (some lineEnd) (cond b (some emptyLine) (cond c (some paragraph) (cond d (some pageEnd) none)))) (some (word w))
-        → wordsIn (word w ∷ items) ≡ wordsIn items
+    found : (a b c d : Bool) → Option Item
+    found a b c d = cond a (some lineEnd) (cond b (some emptyLine) (cond c (some paragraph) (cond d (some pageEnd) none)))
+
+    go : (a b c d : Bool) → found a b c d ≡ some (word w) → wordsIn (word w ∷ items) ≡ wordsIn items
     go true b c d e = cc
     go false true c d e = cc
     go false false true d e = cc
@@ -227,7 +234,7 @@ unfolding itemsOf
 items-join W signs = rw (cut-words W (wordsOf signs), all-parts-join W (wordsIn (wordsOf signs))) (words-join signs)
 
 -- the items of printed signs fit
-pub items-fit : {W : ℕ} → 1 ≤ W → {signs : List ℕ} → All PrintedSign signs → Fitting W (itemsOf W signs)
+pub items-fit : {W : ℕ} → 1 ≤ W → (signs : List ℕ) → ((i : ℕ) → i < length signs → PrintedSign (getD signs i 0)) → Fitting W (itemsOf W signs)
 unfolding itemsOf wordsOf
-items-fit {W} wide {signs} h =
-    items-fit-by-words _ (rw (cut-words W (wordsOf signs)) (all-parts-fit wide (gathered-words empty h)))
+items-fit {W} wide signs printed =
+    items-fit-by-words _ (rw (cut-words W (wordsOf signs)) (all-parts-fit wide (gathered-words empty (all-of-places signs 0 printed))))

@@ -1,5 +1,5 @@
--- Demand 3, of bytes: a layout's spots are those of the bytes. In the lines of the whole volume each word's cells end on the line and before the column that
--- its spot says, and every other cell is blank.
+-- Demand 3, of bytes: a layout's spots are those of the bytes. In the lines of the whole volume each word's cells end on the line and before the
+-- column that its spot says, and every other cell is blank.
 use Prim.Native.Nat.{ℕ, _-_, _≤_, _<_}
 use mathlib.Core.List.{List, [], flatten}
 use mathlib.Core.Path.{_≡_}

@@ -1,5 +1,5 @@
--- Items that can be laid out as 'Lines and pages' says: every word has a cell and at most W, and its cells are 1 to 63. The items of translated signs are
--- so, and stay so where lines are ended by choice.
+-- Items that can be laid out as 'Lines and pages' says: every word has a cell and at most W, and its cells are 1 to 63. The items of printed signs
+-- are so, and stay so where lines are ended by choice.
 use Prim.Native.Nat.{ℕ, _≤_}
 use mathlib.Core.List.{List, [], _∷_}
 use lib.ListN.{length}

@@ -1,4 +1,5 @@
--- 'Output bytes', of the pages that they make: cells are 0 to 63, 'no line has more than W cells or ends in a blank', and a page has a line and at most P.
+-- 'Output bytes', of the pages that they make: cells are 0 to 63, 'no line has more than W cells or ends in a blank', and a page has a line and at
+-- most P.
 use Prim.Native.Nat.{ℕ, _≤_}
 use mathlib.Core.List.{[], _∷_, _++_}
 use mathlib.Core.Path.{_≡_}

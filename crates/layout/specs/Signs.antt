@@ -1,9 +1,8 @@
--- Demand 2, of cells and signs: a cell that isn't blank is 1 to 63, the signs that end a word are the blank and 70 to 73, and what translation prints is
--- cells and format signs.
-use Prim.Native.Nat.{ℕ, _≤_}
+-- Demand 2, of cells and signs: a cell that isn't blank is 1 to 63, and the printed signs that end a word are the blank and 70 to 73.
+use Prim.Native.Nat.{ℕ}
 use mathlib.Core.Bool.{Bool, not, _||_}
 use lib.Dec.{eqb}
-use Rattle.table.specs.Numbers.{blankCell, signLineEnd, signPageEnd}
+use Rattle.table.specs.Numbers.{blankCell}
 use Rattle.table.specs.Cells.{mostCell}
 use Rattle.table.specs.Search.{within, isThere}
 use Rattle.layout.specs.Words.{formatOf}
@@ -16,10 +15,6 @@ isDotted c = within 1 mostCell c
 unfoldable pub endsWord : ℕ → Bool
 endsWord g = eqb g blankCell || isThere (formatOf g)
 
+-- any other is a cell of a word
 abbrev pub staysInWord : ℕ → Bool
 staysInWord g = not (endsWord g)
-
--- a sign that pieces print: a cell, or one of 70..73
-pub data PrintedSign (g : ℕ) : Type 0 where
-  cell : g ≤ mostCell → PrintedSign g
-  format : signLineEnd ≤ g → g ≤ signPageEnd → PrintedSign g
