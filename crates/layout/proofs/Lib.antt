@@ -1,4 +1,11 @@
 pub mod Moves
 pub mod Permitted
 pub mod NoLater
+pub mod Lists
+pub mod Kept
+pub mod Counts
+pub mod Sheet
+pub mod Words
+pub mod Signs
+pub mod Drawn
 pub mod Twelve

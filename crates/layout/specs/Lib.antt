@@ -4,5 +4,10 @@ pub mod Place
 pub mod Pages
 pub mod Permitted
 pub mod Spots
+pub mod Lists
+pub mod Fitting
+pub mod Right
+pub mod Signs
+pub mod Drawn
 pub mod Emboss
 pub mod Computing
