@@ -8,4 +8,6 @@ pub mod Sheet
 pub mod Words
 pub mod Signs
 pub mod Drawn
+pub mod Refusals
+pub mod Demands
 pub mod Twelve

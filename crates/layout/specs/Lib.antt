@@ -10,4 +10,5 @@ pub mod Right
 pub mod Signs
 pub mod Drawn
 pub mod Emboss
+pub mod Refusals
 pub mod Computing

@@ -8,3 +8,4 @@ pub mod States
 pub mod Refusals
 pub mod Collapse
 pub mod Signs
+pub mod Accepted
