@@ -28,6 +28,7 @@ use Rattle.layout.specs.Place.{
   afterWord,
   wordBytes,
 }
+use Rattle.layout.specs.Gather.{Modest}
 use Rattle.layout.specs.declared.Place.{Place}
 
 -- ---- The tests
@@ -201,3 +202,36 @@ word-spends-opening W P p n = go (held-or-empty (p .column)) (decLe (p .column +
     go (inl e) d = rw (word-starts W P p n e)
     go (inr l) (yes f) = rw (word-joins W P p n l f)
     go (inr l) (no d) = rw (word-overflows W P p n l (omega arith))
+
+-- ---- The numbers of a place grow slowly
+
+pub modest-more : {m n : ℕ} {p : Place} → m ≤ n → Modest m p → Modest n p
+modest-more h d =
+    record { column-most = omega arith; line-most = omega arith; written-most = omega arith; lines-most = omega arith; pages-most = omega arith }
+
+pub modest-line : (P m : ℕ) (p : Place) → Modest m p → Modest (m + 2) (afterLine P p)
+unfolding afterLine
+modest-line P m p d = go (fillsPage P p) refl
+  where
+    go : (b : Bool) → fillsPage P p ≡ b → Modest (m + 2) (afterLine P p)
+    go true e =
+        rw (e, afterLine)
+        (record { column-most = omega arith; line-most = omega arith; written-most = omega arith; lines-most = omega arith; pages-most = omega arith })
+    go false e =
+        rw (e, afterLine)
+        (record { column-most = omega arith; line-most = omega arith; written-most = omega arith; lines-most = omega arith; pages-most = omega arith })
+
+pub modest-line-end : (P m : ℕ) (p : Place) → Modest m p → Modest (m + 2) (afterLineEnd P p)
+modest-line-end P m p d = go (held-or-empty (p .column))
+  where
+    go : (p .column ≡ 0) ⊎ (0 < p .column) → Modest (m + 2) (afterLineEnd P p)
+    go (inl e) = rw (line-end-empty P p e) (modest-more (omega arith) d)
+    go (inr l) = rw (line-end-held P p l) (modest-line P m p d)
+
+pub opening-at-most : (W : ℕ) (p : Place) (n : ℕ) → openingBlanks W p n ≤ paragraphBlanks
+unfolding openingBlanks
+opening-at-most W p n = go (p .opening && leb (paragraphBlanks + n) W) refl
+  where
+    go : (b : Bool) → (p .opening && leb (paragraphBlanks + n) W) ≡ b → openingBlanks W p n ≤ paragraphBlanks
+    go true e = rw (e, openingBlanks) (omega arith)
+    go false e = rw (e, openingBlanks) (omega arith)

@@ -9,6 +9,7 @@ pub mod Fitting
 pub mod Right
 pub mod Signs
 pub mod Drawn
+pub mod Gather
 pub mod Emboss
 pub mod Refusals
 pub mod Computing
