@@ -8,6 +8,7 @@ pub mod Sheet
 pub mod Words
 pub mod Signs
 pub mod Drawn
+pub mod Gather
 pub mod Refusals
 pub mod Demands
 pub mod Twelve

@@ -16,6 +16,12 @@ pub struct Place {
     pub pages: usize,
 }
 
+// How far the gathering of signs has come: the place, and how many cells of a word wait to be placed.
+struct Gathering {
+    place: Place,
+    cells: usize,
+}
+
 // What the whole call answers. A refusal has its place where it isn't fixed.
 pub enum Answer {
     Done {
