@@ -6,18 +6,32 @@ use mathlib.Core.List.{List, [], _∷_, _++_, map, append-assoc, append-nil}
 use mathlib.Core.Option.{Option, none, some}
 use mathlib.Core.Path.{_≡_, refl, sym, _∙_, ap, subst}
 use native.Mathlib.Decide.{decLe}
+use native.Mathlib.Numerals.{add-one}
 use native.Mathlib.Omega.{arith}
 use lib.Dec.{leb, ltb, eqb}
-use lib.ListN.{length, take, drop, length-append, length-drop}
-use lib.Seq.{take-at, drop-at}
+use lib.ListN.{length, getD, take, drop, length-append, length-drop}
+use lib.Seq.{take-at, drop-at, drop-cons}
 use borrow.Author.Tests.{le-leb, lt-leb, leb-true, leb-false, lt-ltb, le-ltb, eqb-true, eqb-false, eq-eqb, ne-eqb}
 use Rattle.table.specs.Numbers.{blankCell, signLineEnd, signEmptyLine, signParagraph, signPageEnd}
 use Rattle.table.specs.Search.{isThere}
 use Rattle.layout.specs.Words.{Item, word, lineEnd, emptyLine, paragraph, pageEnd, formatOf, closed, gathered, cutWithin, parts, cutItem, cut}
 use Rattle.layout.specs.Place.{afterWord, wordBytes, afterItem, itemBytes, afterItems, itemsBytes, afterPageEnd, pageEndBytes, ended}
-use Rattle.layout.specs.Gather.{afterFlush, flushBytes, afterFormat, formatBytes, stepped, waiting, stepBytes, afterRest, restBytes}
+use Rattle.layout.specs.Gather.{Modest, afterFlush, flushBytes, afterFormat, formatBytes, stepped, waiting, stepBytes, afterRest, restBytes}
 use Rattle.layout.specs.declared.Gathering.{Gathering}
 use Rattle.layout.specs.declared.Place.{Place}
+use Rattle.layout.proofs.Moves.{modest-more, modest-word, modest-line-end, modest-empty-line, modest-paragraph, modest-page-end}
+
+-- a format sign is no word
+format-no-word : (g : ℕ) (cells : List ℕ) → formatOf g ≡ some (word cells) → ⊥
+unfolding formatOf
+format-no-word g cells e = go (eqb g signLineEnd) (eqb g signEmptyLine) (eqb g signParagraph) (eqb g signPageEnd) e
+  where
+    go : (a b c d : Bool) → cond a (some lineEnd) (cond b (some emptyLine) (cond c (some paragraph) (cond d (some pageEnd) none))) ≡ some (word cells) → ⊥
+    go true b c d e = let z : _≡_ {A = ℕ} 0 1 = cc in omega arith
+    go false true c d e = let z : _≡_ {A = ℕ} 0 1 = cc in omega arith
+    go false false true d e = let z : _≡_ {A = ℕ} 0 1 = cc in omega arith
+    go false false false true e = let z : _≡_ {A = ℕ} 0 1 = cc in omega arith
+    go false false false false e = let z : _≡_ {A = ℕ} 0 1 = cc in omega arith
 
 module _ (W : ℕ) (wide : 1 ≤ W) where
   -- ---- Cutting
@@ -150,23 +164,14 @@ module _ (W P : ℕ) (wide : 1 ≤ W) where
           written = rw e (r .written ∙ rw (bytes-closed p cells, after-closed p cells))
       }
 
-  -- a format sign is no word, and isn't cut
+  -- a format sign isn't cut
   format-whole : (g : ℕ) (f : Item) → formatOf g ≡ some f → cutItem W f ≡ f ∷ []
-  unfolding cutItem formatOf
+  unfolding cutItem
   format-whole g lineEnd e = refl
   format-whole g emptyLine e = refl
   format-whole g paragraph e = refl
   format-whole g pageEnd e = refl
-  format-whole g (word cells) e = go (eqb g signLineEnd) (eqb g signEmptyLine) (eqb g signParagraph) (eqb g signPageEnd) e
-    where
-      go : (a b c d : Bool)
-          → cond a (some lineEnd) (cond b (some emptyLine) (cond c (some paragraph) (cond d (some pageEnd) none))) ≡ some (word cells)
-          → map word (parts W cells) ≡ word cells ∷ []
-      go true b c d e = let z : _≡_ {A = ℕ} 0 1 = cc in absurd (omega arith)
-      go false true c d e = let z : _≡_ {A = ℕ} 0 1 = cc in absurd (omega arith)
-      go false false true d e = let z : _≡_ {A = ℕ} 0 1 = cc in absurd (omega arith)
-      go false false false true e = let z : _≡_ {A = ℕ} 0 1 = cc in absurd (omega arith)
-      go false false false false e = let z : _≡_ {A = ℕ} 0 1 = cc in absurd (omega arith)
+  format-whole g (word cells) e = absurd (format-no-word g cells e)
 
   -- W cells that wait are placed as a word
   runs-full : (p : Place) (cells signs : List ℕ) (n : ℕ) → length cells ≡ n → n ≡ W
@@ -271,3 +276,63 @@ module _ (W P : ℕ) (wide : 1 ≤ W) where
       rw (cut-closed W wide cells h)
       (bytes-append p (closed cells) (pageEnd ∷ [])
       ∙ rw (bytes-closed p cells, after-closed p cells) (ap (λ (r : List ℕ). flushBytes W P p cells ++ r) (append-nil (pageEndBytes P (afterFlush W P p (length cells))))))
+
+-- ---- The numbers of the place stay small
+
+module _ (W P : ℕ) where
+  pub modest-flush : (m n : ℕ) (p : Place) → Modest m p → Modest (m + 4 + n) (afterFlush W P p n)
+  unfolding afterFlush
+  modest-flush m n p d = go (ltb 0 n) refl
+    where
+      go : (b : Bool) → ltb 0 n ≡ b → Modest (m + 4 + n) (afterFlush W P p n)
+      go true e = rw (e, afterFlush) (modest-word W P m n p d)
+      go false e = rw (e, afterFlush) (modest-more (omega arith) d)
+
+  pub modest-format : (m g : ℕ) (p : Place) → Modest m p → Modest (m + 4) (afterFormat W P p g)
+  modest-format m g p d = go (formatOf g) refl
+    where
+      go : (o : Option Item) → formatOf g ≡ o → Modest (m + 4) (afterFormat W P p g)
+      go none e = unfold afterFormat in rw (e, afterFormat) (modest-more (omega arith) d)
+      go (some lineEnd) e = unfold afterFormat afterItem in rw (e, afterFormat) (modest-more (omega arith) (modest-line-end P m p d))
+      go (some emptyLine) e = unfold afterFormat afterItem in rw (e, afterFormat) (modest-empty-line P m p d)
+      go (some paragraph) e = unfold afterFormat afterItem in rw (e, afterFormat) (modest-paragraph P m p d)
+      go (some pageEnd) e = unfold afterFormat afterItem in rw (e, afterFormat) (modest-page-end P m p d)
+      go (some (word cells)) e = absurd (format-no-word g cells e)
+
+  -- a sign adds at most 70 to each number, where fewer than 61 cells wait
+  pub modest-step : (m n g : ℕ) (p : Place) → n < 61 → Modest m p → Modest (m + 70) (stepped W P p n g .place)
+  unfolding stepped
+  modest-step m n g p h d = go (eqb g blankCell) (isThere (formatOf g)) (eqb (n + 1) W) refl refl refl
+    where
+      go : (b f full : Bool) → eqb g blankCell ≡ b → isThere (formatOf g) ≡ f → eqb (n + 1) W ≡ full → Modest (m + 70) (stepped W P p n g .place)
+      go true f full x y z = rw x (modest-more (omega arith) (modest-flush m n p d))
+      go false true full x y z = rw (x, y) (modest-more (omega arith) (modest-format (m + 4 + n) g (afterFlush W P p n) (modest-flush m n p d)))
+      go false false true x y z = rw (x, y, z) (modest-more (omega arith) (modest-word W P m (n + 1) p d))
+      go false false false x y z = rw (x, y, z) (modest-more (omega arith) d)
+
+-- the test for a format sign
+pub format-test : (g : ℕ) → isThere (formatOf g) ≡ (eqb g signLineEnd || eqb g signEmptyLine || eqb g signParagraph || eqb g signPageEnd)
+unfolding formatOf
+format-test g = go (eqb g signLineEnd) (eqb g signEmptyLine) (eqb g signParagraph) (eqb g signPageEnd)
+  where
+    go : (a b c d : Bool)
+        → isThere {A = Item} (cond a (some lineEnd) (cond b (some emptyLine) (cond c (some paragraph) (cond d (some pageEnd) none)))) ≡ (a || b || c || d)
+    go true b c d = refl
+    go false true c d = refl
+    go false false true d = refl
+    go false false false true = refl
+    go false false false false = refl
+
+-- ---- A turn of a loop over the signs: what is left after it is what was left before
+
+module _ (W P : ℕ) (wide : 1 ≤ W) (signs : List ℕ) (i : ℕ) (there : i < length signs) (p : Place) (cells : List ℕ) (below : length cells < W) where
+  abbrev sign : ℕ
+  sign = getD signs i 0
+
+  pub turn-after : afterRest W P p cells (drop i signs) ≡ afterRest W P (stepped W P p (length cells) sign .place) (waiting W cells sign) (drop (i + 1) signs)
+  turn-after = rw (drop-cons signs i 0 there, add-one i) (step-after W P wide p cells sign (drop (suc i) signs) below)
+
+  pub turn-bytes :
+      restBytes W P p cells (drop i signs)
+      ≡ stepBytes W P p cells sign ++ restBytes W P (stepped W P p (length cells) sign .place) (waiting W cells sign) (drop (i + 1) signs)
+  turn-bytes = rw (drop-cons signs i 0 there, add-one i) (step-bytes W P wide p cells sign (drop (suc i) signs) below)
