@@ -8,6 +8,8 @@ pub mod Sheet
 pub mod Words
 pub mod Signs
 pub mod Drawn
+pub mod Bytes
+pub mod Sets
 pub mod Gather
 pub mod Refusals
 pub mod Demands

@@ -3,6 +3,7 @@
 
 mod measuring;
 mod moving;
+mod writing;
 
 use table::Fault;
 

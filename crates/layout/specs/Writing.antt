@@ -1,0 +1,21 @@
+-- What a move that writes does: it hands the moved place back, and its bytes stand in the output from the place's own number on; everything else is as it was.
+use Prim.Native.Nat.{ℕ, _+_, _≤_}
+use mathlib.Core.List.{List}
+use mathlib.Core.Path.{_≡_}
+use lib.ListN.{length}
+use lib.Seq.{sets}
+use Rattle.layout.specs.Gather.{Modest}
+use Rattle.layout.specs.declared.Place.{Place}
+
+-- `bytes` are written from `at` on
+pub record Put (before : List ℕ) (at : ℕ) (bytes after : List ℕ) : Type 0 where
+  pub page : after ≡ sets before at bytes
+
+pub record Moved (before : List ℕ) (p : Place) (bytes after : List ℕ) (moved answer : Place) : Type 0 where
+  pub place : answer ≡ moved
+  pub page : after ≡ sets before (p .written) bytes
+
+-- the place is modest, and the bytes have room from it on
+pub record Room (m : ℕ) (out : List ℕ) (p : Place) (bytes : List ℕ) : Type 0 where
+  pub modest : Modest m p
+  pub room : p .written + length bytes ≤ length out

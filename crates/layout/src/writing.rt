@@ -1,0 +1,123 @@
+// The pass that writes. Each move of the place has its bytes: cells, 64 after a line, 65 after a page. What is written stands from the place's own number
+// on, and everything else stays as it was.
+
+ghost use mathlib.Core.Path.{_≡_};
+ghost use Prim.Native.Nat.{_+_, _<_, _≤_, _^_};
+ghost use lib.ListN.{length, replicate, take};
+ghost use Rattle.layout.specs.Words.{itemsOf};
+ghost use Rattle.layout.specs.Place.{afterLine, lineBytes, afterLineEnd, lineEndBytes, afterEmptyLine, emptyLineBytes, afterParagraph, paragraphBytes, afterPageEnd, pageEndBytes, cellsAfter, afterWord, wordBytes, volume};
+ghost use Rattle.layout.specs.Gather.{Modest, afterFlush, flushBytes, afterFormat, formatBytes, stepped, waiting, stepBytes};
+ghost use Rattle.layout.specs.Writing.{Put, Moved, Room};
+
+use crate::measuring::is_format;
+use crate::Gathering;
+use crate::Place;
+
+// A run of blanks from `at` on.
+fn put_blanks(out: &mut [u8], at: usize, blanks: usize)
+    requires { ⌜ at + blanks ≤ length (now out) ⌝ }
+    ensures { λ _. ⌜ Put (now (out .entry)) at (replicate blanks 0) (now (out .exit)) ⌝ }
+{
+    let mut j = 0;
+    while j < blanks {
+        out[at + j] = 0;
+        j += 1;
+    }
+}
+
+// The cells of a word from `at` on.
+fn put_run(out: &mut [u8], at: usize, cells: &[u8])
+    requires { ⌜ at + length (now cells) ≤ length (now out) ⌝ }
+    ensures { λ _. ⌜ Put (now (out .entry)) at (now (cells .entry)) (now (out .exit)) ⌝ }
+{
+    let mut j = 0;
+    while j < cells.len() {
+        out[at + j] = cells[j];
+        j += 1;
+    }
+}
+
+// The cells of a word after some blanks.
+fn put_cells(out: &mut [u8], at: usize, blanks: usize, cells: &[u8])
+    requires { ⌜ at + blanks + length (now cells) ≤ length (now out) ⌝ }
+    ensures { λ _. ⌜ Put (now (out .entry)) at (cellsAfter blanks (now (cells .entry))) (now (out .exit)) ⌝ }
+{
+    put_blanks(out, at, blanks);
+    put_run(out, at + blanks, cells);
+}
+
+// The line ends, whatever it holds.
+fn put_line(out: &mut [u8], p: Place, page: usize) -> Place
+    requires { ⌜ Room (2 ^ 33) (now out) p (lineBytes page p) ⌝ }
+    ensures { λ r. ⌜ Moved (now (out .entry)) p (lineBytes page p) (now (out .exit)) (afterLine page p) r ⌝ }
+{
+    let at = p.written;
+    if p.line + 1 == page {
+        out[at] = 64;
+        out[at + 1] = 65;
+        return p.line_done(page);
+    }
+    out[at] = 64;
+    p.line_done(page)
+}
+
+// Sign 70: the line ends if it holds a cell.
+fn put_line_end(out: &mut [u8], p: Place, page: usize) -> Place
+    requires { ⌜ Room (2 ^ 33) (now out) p (lineEndBytes page p) ⌝ }
+    ensures { λ r. ⌜ Moved (now (out .entry)) p (lineEndBytes page p) (now (out .exit)) (afterLineEnd page p) r ⌝ }
+{
+    if 0 < p.column {
+        return put_line(out, p, page);
+    }
+    p
+}
+
+// Sign 71: as 70, then an empty line unless the page has no line yet.
+fn put_empty_line(out: &mut [u8], p: Place, page: usize) -> Place
+    requires { ⌜ Room (2 ^ 32) (now out) p (emptyLineBytes page p) ⌝ }
+    ensures { λ r. ⌜ Moved (now (out .entry)) p (emptyLineBytes page p) (now (out .exit)) (afterEmptyLine page p) r ⌝ }
+{
+    let ended = put_line_end(out, p, page);
+    if 0 < ended.line {
+        return put_line(out, ended, page);
+    }
+    ended
+}
+
+// Sign 73, and the end of the text: as 70, then the page ends if it has a line.
+fn put_page_end(out: &mut [u8], p: Place, page: usize) -> Place
+    requires { ⌜ Room (2 ^ 32) (now out) p (pageEndBytes page p) ⌝ }
+    ensures { λ r. ⌜ Moved (now (out .entry)) p (pageEndBytes page p) (now (out .exit)) (afterPageEnd page p) r ⌝ }
+{
+    let ended = put_line_end(out, p, page);
+    if 0 < ended.line {
+        let at = ended.written;
+        out[at] = 65;
+        return p.page_end(page);
+    }
+    ended
+}
+
+// A word: on a line with cells it joins if it fits, otherwise the line ends and it starts the next.
+fn put_word(out: &mut [u8], p: Place, cells: &[u8], width: usize, page: usize) -> Place
+    requires { ⌜ (Room (2 ^ 32) (now out) p (wordBytes width page p (now cells))) × (length (now cells) ≤ 60) ⌝ }
+    ensures { λ r. ⌜ Moved (now (out .entry)) p (wordBytes width page p (now (cells .entry))) (now (out .exit)) (afterWord width page p (length (now (cells .entry)))) r ⌝ }
+{
+    let n = cells.len();
+    if p.column == 0 {
+        let blanks = p.opening_blanks(width, n);
+        let at = p.written;
+        put_cells(out, at, blanks, cells);
+        return p.cells(blanks, n);
+    }
+    if p.column + 1 + n <= width {
+        let at = p.written;
+        put_cells(out, at, 1, cells);
+        return p.cells(1, n);
+    }
+    let next = put_line(out, p, page);
+    let blanks = next.opening_blanks(width, n);
+    let at = next.written;
+    put_cells(out, at, blanks, cells);
+    next.cells(blanks, n)
+}
