@@ -2,9 +2,10 @@
 use Prim.Native.Nat.{ℕ, _+_, _≤_}
 use mathlib.Core.List.{List}
 use mathlib.Core.Path.{_≡_}
-use lib.ListN.{length}
+use lib.ListN.{length, take}
 use lib.Seq.{sets}
-use Rattle.layout.specs.Gather.{Modest}
+use Rattle.layout.specs.Gather.{Modest, stepped, waiting, stepBytes}
+use Rattle.layout.specs.declared.Gathering.{Gathering}
 use Rattle.layout.specs.declared.Place.{Place}
 
 -- `bytes` are written from `at` on
@@ -19,3 +20,9 @@ pub record Moved (before : List ℕ) (p : Place) (bytes after : List ℕ) (moved
 pub record Room (m : ℕ) (out : List ℕ) (p : Place) (bytes : List ℕ) : Type 0 where
   pub modest : Modest m p
   pub room : p .written + length bytes ≤ length out
+
+-- one sign: the moved place with the cells that wait, the bytes written, and the cells that wait in front of the buffer
+pub record Signed (W P : ℕ) (before : List ℕ) (p : Place) (word : List ℕ) (n g : ℕ) (after word′ : List ℕ) (answer : Gathering) : Type 0 where
+  pub place : answer ≡ stepped W P p n g
+  pub page : after ≡ sets before (p .written) (stepBytes W P p (take n word) g)
+  pub waits : take (answer .cells) word′ ≡ waiting W (take n word) g

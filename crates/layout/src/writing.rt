@@ -121,3 +121,50 @@ fn put_word(out: &mut [u8], p: Place, cells: &[u8], width: usize, page: usize) -
     put_cells(out, at, blanks, cells);
     next.cells(blanks, n)
 }
+
+// Sign 72: as 70, and the next word opens a paragraph.
+fn put_paragraph(out: &mut [u8], p: Place, page: usize) -> Place
+    requires { ⌜ Room (2 ^ 32) (now out) p (paragraphBytes page p) ⌝ }
+    ensures { λ r. ⌜ Moved (now (out .entry)) p (paragraphBytes page p) (now (out .exit)) (afterParagraph page p) r ⌝ }
+{
+    let ended = put_line_end(out, p, page);
+    Place {
+        column: ended.column,
+        line: ended.line,
+        opening: true,
+        written: ended.written,
+        lines: ended.lines,
+        pages: ended.pages,
+    }
+}
+
+// The cells that wait are placed, if there are any.
+fn put_flush(out: &mut [u8], p: Place, cells: &[u8], width: usize, page: usize) -> Place
+    requires { ⌜ (Room (2 ^ 32) (now out) p (flushBytes width page p (now cells))) × (length (now cells) ≤ 60) ⌝ }
+    ensures { λ r. ⌜ Moved (now (out .entry)) p (flushBytes width page p (now (cells .entry))) (now (out .exit)) (afterFlush width page p (length (now (cells .entry)))) r ⌝ }
+{
+    if 0 < cells.len() {
+        return put_word(out, p, cells, width, page);
+    }
+    p
+}
+
+// A format sign.
+fn put_format(out: &mut [u8], p: Place, g: u8, width: usize, page: usize) -> Place
+    requires { ⌜ Room (2 ^ 32) (now out) p (formatBytes width page p g) ⌝ }
+    ensures { λ r. ⌜ Moved (now (out .entry)) p (formatBytes width page p g) (now (out .exit)) (afterFormat width page p g) r ⌝ }
+{
+    if g == 70 {
+        return put_line_end(out, p, page);
+    }
+    if g == 71 {
+        return put_empty_line(out, p, page);
+    }
+    if g == 72 {
+        return put_paragraph(out, p, page);
+    }
+    if g == 73 {
+        return put_page_end(out, p, page);
+    }
+    p
+}
