@@ -11,6 +11,7 @@ pub mod Drawn
 pub mod Bytes
 pub mod Sets
 pub mod Gather
+pub mod Steps
 pub mod Refusals
 pub mod Demands
 pub mod Twelve

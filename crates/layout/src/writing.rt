@@ -7,7 +7,7 @@ ghost use lib.ListN.{length, replicate, take};
 ghost use Rattle.layout.specs.Words.{itemsOf};
 ghost use Rattle.layout.specs.Place.{afterLine, lineBytes, afterLineEnd, lineEndBytes, afterEmptyLine, emptyLineBytes, afterParagraph, paragraphBytes, afterPageEnd, pageEndBytes, cellsAfter, afterWord, wordBytes, volume};
 ghost use Rattle.layout.specs.Gather.{Modest, afterFlush, flushBytes, afterFormat, formatBytes, stepped, waiting, stepBytes};
-ghost use Rattle.layout.specs.Writing.{Put, Moved, Room};
+ghost use Rattle.layout.specs.Writing.{Put, Moved, Room, Signed};
 
 use crate::measuring::is_format;
 use crate::Gathering;
@@ -167,4 +167,46 @@ fn put_format(out: &mut [u8], p: Place, g: u8, width: usize, page: usize) -> Pla
         return put_page_end(out, p, page);
     }
     p
+}
+
+// One sign: a blank or a format sign places the cells that wait in front of `word`; a cell waits with them, until they are as many as the width.
+fn put_sign(out: &mut [u8], p: Place, word: &mut [u8], n: usize, g: u8, width: usize, page: usize) -> Gathering
+    requires { ⌜ (Room (2 ^ 31) (now out) p (stepBytes width page p (take n (now word)) g)) × (n < width) × (width ≤ 60) × (width ≤ length (now word)) ⌝ }
+    ensures { λ r. ⌜ Signed width page (now (out .entry)) p (now (word .entry)) n g (now (out .exit)) (now (word .exit)) r ⌝ }
+{
+    if g == 0 {
+        let q = put_flush(out, p, &word[..n], width, page);
+        return Gathering { place: q, cells: 0 };
+    }
+    if is_format(g) {
+        let q = put_flush(out, p, &word[..n], width, page);
+        let r = put_format(out, q, g, width, page);
+        return Gathering { place: r, cells: 0 };
+    }
+    word[n] = g;
+    let m = n + 1;
+    if m == width {
+        let q = put_word(out, p, &word[..m], width, page);
+        return Gathering { place: q, cells: 0 };
+    }
+    Gathering { place: p, cells: m }
+}
+
+// All signs of a text are written, and the end of the text.
+pub(crate) fn write(signs: &[u8], width: usize, page: usize, out: &mut [u8])
+    requires { ⌜ (length (now signs) ≤ 65536) × (1 ≤ width) × (width ≤ 60) × (length (volume width page (itemsOf width (now signs))) ≤ length (now out)) ⌝ }
+    ensures { λ _. ⌜ Put (now (out .entry)) 0 (volume width page (itemsOf width (now (signs .entry)))) (now (out .exit)) ⌝ }
+{
+    let mut word = [0u8; 60];
+    let mut p = Place::first();
+    let mut n = 0;
+    let mut i = 0;
+    while i < signs.len() {
+        let s = put_sign(out, p, &mut word, n, signs[i], width, page);
+        p = s.place;
+        n = s.cells;
+        i += 1;
+    }
+    let q = put_flush(out, p, &word[..n], width, page);
+    put_page_end(out, q, page);
 }
