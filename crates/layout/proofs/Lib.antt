@@ -12,6 +12,7 @@ pub mod Bytes
 pub mod Sets
 pub mod Gather
 pub mod Steps
+pub mod Going
 pub mod Refusals
 pub mod Demands
 pub mod Twelve
