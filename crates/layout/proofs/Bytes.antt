@@ -15,12 +15,46 @@ use Rattle.table.specs.Search.{isThere}
 use Rattle.layout.specs.Numbers.{gapBlanks, paragraphBlanks, lineMark, pageMark}
 use Rattle.layout.specs.Words.{Item, word, lineEnd, emptyLine, paragraph, pageEnd, formatOf}
 use Rattle.layout.specs.Place.{
-    holdsCell, hasLine, fillsPage, afterLine, lineBytes, afterLineEnd, lineEndBytes, afterEmptyLine, emptyLineBytes, afterParagraph, paragraphBytes, afterPage, afterPageEnd, pageEndBytes, openingBlanks, joins, afterCells, cellsAfter, afterWord, wordBytes, afterItem, itemBytes
+  holdsCell,
+  hasLine,
+  fillsPage,
+  afterLine,
+  lineBytes,
+  afterLineEnd,
+  lineEndBytes,
+  afterEmptyLine,
+  emptyLineBytes,
+  afterParagraph,
+  paragraphBytes,
+  afterPage,
+  afterPageEnd,
+  pageEndBytes,
+  openingBlanks,
+  joins,
+  afterCells,
+  cellsAfter,
+  afterWord,
+  wordBytes,
+  afterItem,
+  itemBytes,
 }
 use Rattle.layout.specs.Gather.{afterFlush, flushBytes, afterFormat, formatBytes, stepped, waiting, stepBytes}
 use Rattle.layout.specs.declared.Place.{Place}
 use Rattle.layout.proofs.Moves.{
-    holds-cell, holds-none, has-line, has-none, held-or-empty, line-end-held, line-end-empty, empty-line-below, empty-line-at-top, page-end-lined, page-end-empty, word-starts, word-joins, word-overflows
+  holds-cell,
+  holds-none,
+  has-line,
+  has-none,
+  held-or-empty,
+  line-end-held,
+  line-end-empty,
+  empty-line-below,
+  empty-line-at-top,
+  page-end-lined,
+  page-end-empty,
+  word-starts,
+  word-joins,
+  word-overflows,
 }
 
 module _ (P : ℕ) (p : Place) where

@@ -155,13 +155,13 @@ module _ (W P : ℕ) (wide : 1 ≤ W) where
   unfolding ended
   runs-closed p cells items h =
       let e : cut W (closed cells ++ items) ++ pageEnd ∷ [] ≡ closed cells ++ (cut W items ++ pageEnd ∷ []) =
-          ap (λ (r : List Item). r ++ pageEnd ∷ [])
-          (cut-append W wide (closed cells) items ∙ ap (λ (r : List Item). r ++ cut W items) (cut-closed W wide cells h))
-          ∙ append-assoc (closed cells) (cut W items) (pageEnd ∷ []) in
+      ap (λ (r : List Item). r ++ pageEnd ∷ [])
+      (cut-append W wide (closed cells) items ∙ ap (λ (r : List Item). r ++ cut W items) (cut-closed W wide cells h))
+      ∙ append-assoc (closed cells) (cut W items) (pageEnd ∷ []) in
       let r = runs-append p (closed cells) (cut W items ++ pageEnd ∷ []) in
       record {
-          place = rw e (r .place ∙ ap (λ (q : Place). afterItems W P q (cut W items ++ pageEnd ∷ [])) (after-closed p cells));
-          written = rw e (r .written ∙ rw (bytes-closed p cells, after-closed p cells))
+        place = rw e (r .place ∙ ap (λ (q : Place). afterItems W P q (cut W items ++ pageEnd ∷ [])) (after-closed p cells));
+        written = rw e (r .written ∙ rw (bytes-closed p cells, after-closed p cells));
       }
 
   -- a format sign isn't cut
@@ -179,7 +179,7 @@ module _ (W P : ℕ) (wide : 1 ≤ W) where
   unfolding ended afterItems afterItem itemsBytes itemBytes
   runs-full p cells signs n e f =
       let c : cut W (gathered cells signs) ≡ word cells ∷ cut W (gathered [] signs) =
-          ap (λ (r : List ℕ). cut W (gathered r signs)) (sym (append-nil cells)) ∙ gathered-full W wide cells [] signs (e ∙ f) in
+      ap (λ (r : List ℕ). cut W (gathered r signs)) (sym (append-nil cells)) ∙ gathered-full W wide cells [] signs (e ∙ f) in
       rw (c, ← e) (record { place = refl; written = refl })
 
   after-format : (p : Place) (g : ℕ) (f : Item) → formatOf g ≡ some f → afterFormat W P p g ≡ afterItem W P p f
@@ -193,21 +193,21 @@ module _ (W P : ℕ) (wide : 1 ≤ W) where
   -- a format sign after the cells that wait
   runs-format : (p : Place) (cells : List ℕ) (g : ℕ) (f : Item) (signs : List ℕ) → length cells ≤ W → formatOf g ≡ some f
       → Runs p (ended (cut W (closed cells ++ f ∷ gathered [] signs)))
-        (flushBytes W P p cells ++ formatBytes W P (afterFlush W P p (length cells)) g)
-        (afterFormat W P (afterFlush W P p (length cells)) g)
-        (ended (cut W (gathered [] signs)))
+      (flushBytes W P p cells ++ formatBytes W P (afterFlush W P p (length cells)) g)
+      (afterFormat W P (afterFlush W P p (length cells)) g)
+      (ended (cut W (gathered [] signs)))
   unfolding ended cut afterItems itemsBytes
   runs-format p cells g f signs h y =
       let r = runs-closed p cells (f ∷ gathered [] signs) h in
       let q : Place = afterFlush W P p (length cells) in
       let c : cut W (f ∷ gathered [] signs) ≡ f ∷ cut W (gathered [] signs) =
-          ap (λ (r : List Item). r ++ cut W (gathered [] signs)) (format-whole g f y) in
+      ap (λ (r : List Item). r ++ cut W (gathered [] signs)) (format-whole g f y) in
       record {
-          place = r .place ∙ rw (c, after-format q g f y);
-          written =
-              r .written
-              ∙ rw (c, after-format q g f y, bytes-format q g f y)
-                (sym (append-assoc (flushBytes W P p cells) (itemBytes W P q f) (itemsBytes W P (afterItem W P q f) (cut W (gathered [] signs) ++ pageEnd ∷ []))))
+        place = r .place ∙ rw (c, after-format q g f y);
+        written =
+            r .written
+            ∙ rw (c, after-format q g f y, bytes-format q g f y)
+            (sym (append-assoc (flushBytes W P p cells) (itemBytes W P q f) (itemsBytes W P (afterItem W P q f) (cut W (gathered [] signs) ++ pageEnd ∷ []))));
       }
 
   -- ---- One sign

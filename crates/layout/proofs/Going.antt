@@ -41,15 +41,15 @@ module _ {W P : ℕ} {signs out₀ : List ℕ} (z : Sized W P signs out₀) wher
   going-first word e =
       let w = z .wide in
       record {
-          there = omega arith;
-          below = omega arith;
-          buffer = e;
-          same = refl;
-          modest = record { column-most = omega arith; line-most = omega arith; written-most = omega arith; lines-most = omega arith; pages-most = omega arith };
-          done = [];
-          page = refl;
-          written = refl;
-          whole = refl
+        there = omega arith;
+        below = omega arith;
+        buffer = e;
+        same = refl;
+        modest = record { column-most = omega arith; line-most = omega arith; written-most = omega arith; lines-most = omega arith; pages-most = omega arith };
+        done = [];
+        page = refl;
+        written = refl;
+        whole = refl;
       }
 
   module _ {out word : List ℕ} {p : Place} {n i : ℕ} (v : Going W P signs out₀ out word p n i) where
@@ -96,24 +96,24 @@ module _ {W P : ℕ} {signs out₀ : List ℕ} (z : Sized W P signs out₀) wher
           let q : Place = stepped W P p n g .place in
           let e : r .place ≡ q = ap (λ (x : Gathering). x .place) (s .place) in
           let u : r .cells ≡ length (waiting W cells g) =
-              ap (λ (x : Gathering). x .cells) (s .place) ∙ ap (λ (j : ℕ). stepped W P p j g .cells) (sym size) ∙ sym (Gather.waiting-length W P (z .wide) p cells g) in
+          ap (λ (x : Gathering). x .cells) (s .place) ∙ ap (λ (j : ℕ). stepped W P p j g .cells) (sym size) ∙ sym (Gather.waiting-length W P (z .wide) p cells g) in
           let f = Gather.waiting-below W P (z .wide) cells g (omega arith) in
           let w : q .written ≡ p .written + length bytes =
-              ap (λ (j : ℕ). stepped W P p j g .place .written) (sym size) ∙ Bytes.written-step W P p cells g in
+          ap (λ (j : ℕ). stepped W P p j g .place .written) (sym size) ∙ Bytes.written-step W P p cells g in
           let a = v .written in
           record {
-              there = omega arith;
-              below = omega arith;
-              buffer = l;
-              same = ap length (s .page) ∙ length-sets out (p .written) bytes ∙ v .same;
-              modest = rw e (Moves.modest-more (omega arith) (Gather.modest-step W P (70 * i) n g p (omega arith) (v .modest)));
-              done = v .done ++ bytes;
-              page = put-then out₀ out out′ 0 (v .done) bytes (v .page) (s .page) (omega arith);
-              written = let x = length-append (v .done) bytes in rw e (omega arith);
-              whole =
-                  rw (e, s .waits)
-                  (append-assoc (v .done) bytes (restBytes W P q (waiting W cells g) (drop (i + 1) signs))
-                  ∙ ap (λ (y : List ℕ). v .done ++ y) (sym turn) ∙ v .whole)
+            there = omega arith;
+            below = omega arith;
+            buffer = l;
+            same = ap length (s .page) ∙ length-sets out (p .written) bytes ∙ v .same;
+            modest = rw e (Moves.modest-more (omega arith) (Gather.modest-step W P (70 * i) n g p (omega arith) (v .modest)));
+            done = v .done ++ bytes;
+            page = put-then out₀ out out′ 0 (v .done) bytes (v .page) (s .page) (omega arith);
+            written = let x = length-append (v .done) bytes in rw e (omega arith);
+            whole =
+                rw (e, s .waits)
+                (append-assoc (v .done) bytes (restBytes W P q (waiting W cells g) (drop (i + 1) signs))
+                ∙ ap (λ (y : List ℕ). v .done ++ y) (sym turn) ∙ v .whole);
           }
 
     -- ---- The end
@@ -181,4 +181,4 @@ module _ {W P : ℕ} {signs out₀ : List ℕ} (z : Sized W P signs out₀) wher
           (e .page ∙ ap (λ (y : Place). sets out′ (y .written) (pageEndBytes P y)) h)
           (omega arith)
           ∙ ap (λ (y : List ℕ). sets out₀ 0 y)
-            (append-assoc (v .done) (flushBytes W P p cells) (pageEndBytes P flushed) ∙ ap (λ (y : List ℕ). v .done ++ y) (sym rest) ∙ v .whole)
+          (append-assoc (v .done) (flushBytes W P p cells) (pageEndBytes P flushed) ∙ ap (λ (y : List ℕ). v .done ++ y) (sym rest) ∙ v .whole)

@@ -39,6 +39,7 @@ use Rattle.layout.specs.Emboss.{
   refused,
   done,
   bytesOf,
+  roomed,
   judgeRoom,
   judgeText,
   sizesRight,
@@ -158,15 +159,15 @@ module _ (setting : Setting) (image text : List ℕ) (W P : ℕ) (out : List ℕ
   numbered (line-8 x) = omega arith
 
   told-room : NoneBelow 8 → Told (judgeRoom (tableOf image) setting text W P out)
-  unfolding judgeRoom
+  unfolding judgeRoom roomed
   told-room below = go (leb (length bytes) (length out)) refl
     where
       go : (b : Bool) → leb (length bytes) (length out) ≡ b → Told (judgeRoom (tableOf image) setting text W P out)
       go true e =
           let room : length bytes ≤ length out = leb-true _ _ e in
-          told-done (rw (e, judgeRoom)) (λ m q l. below-more 8 below (λ q x. omega arith) m q (numbered l) l)
+          told-done (rw (e, judgeRoom, roomed)) (λ m q l. below-more 8 below (λ q x. omega arith) m q (numbered l) l)
       go false e =
-          told-refused (Room (length bytes)) (omega arith) (rw (e, judgeRoom)) (record { line = line-8 (leb-false _ _ e); none-before = below })
+          told-refused (Room (length bytes)) (omega arith) (rw (e, judgeRoom, roomed)) (record { line = line-8 (leb-false _ _ e); none-before = below })
 
   told-text : NoneBelow 6 → Told (judgeText (tableOf image) setting text W P out)
   unfolding judgeText

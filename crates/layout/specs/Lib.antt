@@ -10,7 +10,7 @@ pub mod Right
 pub mod Signs
 pub mod Drawn
 pub mod Gather
-pub mod Writing
 pub mod Emboss
+pub mod Writing
 pub mod Refusals
 pub mod Computing

@@ -1,10 +1,13 @@
 -- What a move that writes does: it hands the moved place back, and its bytes stand in the output from the place's own number on; everything else is as it was.
-use Prim.Native.Nat.{ℕ, _+_, _≤_}
+use Prim.Native.Nat.{ℕ, _+_, _≤_, _<_}
 use mathlib.Core.List.{List}
 use mathlib.Core.Path.{_≡_}
-use lib.ListN.{length, take}
+use lib.ListN.{length, getD, take}
 use lib.Seq.{sets}
+use Rattle.translation.specs.Signs.{PrintedSign}
+use Rattle.layout.specs.Emboss.{roomed}
 use Rattle.layout.specs.Gather.{Modest, stepped, waiting, stepBytes}
+use Rattle.layout.specs.declared.Answer.{Answer}
 use Rattle.layout.specs.declared.Gathering.{Gathering}
 use Rattle.layout.specs.declared.Place.{Place}
 
@@ -26,3 +29,16 @@ pub record Signed (W P : ℕ) (before : List ℕ) (p : Place) (word : List ℕ) 
   pub place : answer ≡ stepped W P p n g
   pub page : after ≡ sets before (p .written) (stepBytes W P p (take n word) g)
   pub waits : take (answer .cells) word′ ≡ waiting W (take n word) g
+
+-- signs that can be laid out: not too many, printed, within the sizes
+pub record Fillable (W P : ℕ) (signs : List ℕ) : Type 0 where
+  pub most : length signs ≤ 65536
+  pub wide : 1 ≤ W
+  pub narrow : W ≤ 60
+  pub page : 0 < P
+  pub printed : (i : ℕ) → i < length signs → PrintedSign (getD signs i 0)
+
+-- the answer and the output afterwards, for the bytes of a text of `n` pieces
+pub record Filled (bytes : List ℕ) (n : ℕ) (before after : List ℕ) (a : Answer) : Type 0 where
+  pub answered : a ≡ roomed before bytes n .answer
+  pub written : after ≡ roomed before bytes n .output

@@ -1,6 +1,7 @@
 // The whole call: translated signs are gathered into words, laid out in lines and pages, and written as cells.
 // What each type means is said in specs/; this file has the types that the definitions and the calls share.
 
+mod filling;
 mod measuring;
 mod moving;
 mod writing;

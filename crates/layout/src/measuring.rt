@@ -7,7 +7,6 @@ ghost use Rattle.table.specs.Search.{isThere};
 ghost use Rattle.layout.specs.Words.{formatOf, itemsOf};
 ghost use Rattle.layout.specs.Place.{volumeEnd};
 ghost use Rattle.layout.specs.Gather.{Modest, afterFlush, afterFormat, stepped};
-
 use crate::Gathering;
 use crate::Place;
 

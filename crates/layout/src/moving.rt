@@ -4,7 +4,6 @@ ghost use mathlib.Core.Path.{_≡_};
 ghost use Prim.Native.Nat.{_<_, _^_, _≤_};
 ghost use Rattle.layout.specs.Place.{start, afterLine, afterLineEnd, afterEmptyLine, afterParagraph, afterPage, afterPageEnd, openingBlanks, afterCells, afterWord};
 ghost use Rattle.layout.specs.Gather.{Modest};
-
 use crate::Place;
 
 impl Place {
@@ -53,7 +52,11 @@ impl Place {
         requires { ⌜ Modest (2 ^ 33) self ⌝ }
         ensures { λ r. ⌜ r ≡ afterLineEnd page self ⌝ }
     {
-        if 0 < self.column { self.line_done(page) } else { self }
+        if 0 < self.column {
+            self.line_done(page)
+        } else {
+            self
+        }
     }
 
     // The cells of a word of `n`, after some blanks, are on the line.
@@ -76,7 +79,11 @@ impl Place {
         requires { ⌜ n < 2 ^ 32 ⌝ }
         ensures { λ r. ⌜ r ≡ openingBlanks width self n ⌝ }
     {
-        if self.opening & (2 + n <= width) { 2 } else { 0 }
+        if self.opening & (2 + n <= width) {
+            2
+        } else {
+            0
+        }
     }
 
     // A word of `n` cells: on a line with cells it joins if it fits, otherwise the line ends and it starts the next.
@@ -100,7 +107,11 @@ impl Place {
         ensures { λ r. ⌜ r ≡ afterEmptyLine page self ⌝ }
     {
         let ended = self.line_end(page);
-        if 0 < ended.line { ended.line_done(page) } else { ended }
+        if 0 < ended.line {
+            ended.line_done(page)
+        } else {
+            ended
+        }
     }
 
     // Sign 72: as 70, and the next word opens a paragraph.

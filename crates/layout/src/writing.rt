@@ -8,10 +8,9 @@ ghost use Rattle.layout.specs.Words.{itemsOf};
 ghost use Rattle.layout.specs.Place.{afterLine, lineBytes, afterLineEnd, lineEndBytes, afterEmptyLine, emptyLineBytes, afterParagraph, paragraphBytes, afterPageEnd, pageEndBytes, cellsAfter, afterWord, wordBytes, volume};
 ghost use Rattle.layout.specs.Gather.{Modest, afterFlush, flushBytes, afterFormat, formatBytes, stepped, waiting, stepBytes};
 ghost use Rattle.layout.specs.Writing.{Put, Moved, Room, Signed};
-
-use crate::measuring::is_format;
 use crate::Gathering;
 use crate::Place;
+use crate::measuring::is_format;
 
 // A run of blanks from `at` on.
 fn put_blanks(out: &mut [u8], at: usize, blanks: usize)
@@ -170,7 +169,15 @@ fn put_format(out: &mut [u8], p: Place, g: u8, width: usize, page: usize) -> Pla
 }
 
 // One sign: a blank or a format sign places the cells that wait in front of `word`; a cell waits with them, until they are as many as the width.
-fn put_sign(out: &mut [u8], p: Place, word: &mut [u8], n: usize, g: u8, width: usize, page: usize) -> Gathering
+fn put_sign(
+    out: &mut [u8],
+    p: Place,
+    word: &mut [u8],
+    n: usize,
+    g: u8,
+    width: usize,
+    page: usize,
+) -> Gathering
     requires { ⌜ (Room (2 ^ 31) (now out) p (stepBytes width page p (take n (now word)) g)) × (n < width) × (width ≤ 60) × (width ≤ length (now word)) ⌝ }
     ensures { λ r. ⌜ Signed width page (now (out .entry)) p (now (word .entry)) n g (now (out .exit)) (now (word .exit)) r ⌝ }
 {

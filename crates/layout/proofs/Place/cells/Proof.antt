@@ -1,28 +1,22 @@
+-- `layout::Place::cells` meets its contract: it is the definition, and its sums are far from overflow.
 use borrow.Author.Needs.{needs}
 use mathlib.Core.Path.{_≡_, refl, sym, _∙_, ap}
 use Rattle.layout.specs.Place.{afterCells}
 use Rattle.layout.proofs.Place.cells.Statement.{statement}
 use Rattle.layout.proofs.Place.cells.Tie as tie
-use Rattle.layout.proofs.Place.cells.Reads as reads
-use Rattle.layout.proofs.Place.cells.Lts as lts
 
--- src/moving.rt:65:21
 add-t4 : tie.Need-add-t4
 add-t4 c = search needs
 
--- src/moving.rt:65:21
 add-t5 : tie.Need-add-t5
 add-t5 c = search needs
 
--- src/moving.rt:68:22
 add-t6 : tie.Need-add-t6
 add-t6 c = search needs
 
--- src/moving.rt:68:22
 add-t7 : tie.Need-add-t7
 add-t7 c = search needs
 
--- src/moving.rt:60:5
 returns : tie.Need-returns
 unfolding afterCells
 returns c = refl

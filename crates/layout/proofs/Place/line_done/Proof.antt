@@ -1,3 +1,4 @@
+-- `layout::Place::line_done` meets its contract: by whether one more line fills the page.
 use borrow.Author.Needs.{needs}
 use mathlib.Core.Path.{_≡_, refl, sym, _∙_, ap}
 use Prim.Native.Nat.{_+_}
@@ -6,44 +7,33 @@ use Rattle.layout.specs.Place.{afterLine, fillsPage}
 use Rattle.layout.proofs.Moves as Moves
 use Rattle.layout.proofs.Place.line_done.Statement.{statement}
 use Rattle.layout.proofs.Place.line_done.Tie as tie
-use Rattle.layout.proofs.Place.line_done.Reads as reads
-use Rattle.layout.proofs.Place.line_done.Lts as lts
 
--- src/moving.rt:30:12
 add-if1 : tie.Need-add-if1
 add-if1 c = search needs
 
--- src/moving.rt:35:26
 add-t6 : tie.Need-add-t6
 add-t6 c = search needs
 
--- src/moving.rt:36:24
 add-t7 : tie.Need-add-t7
 add-t7 c = search needs
 
--- src/moving.rt:37:24
 add-t8 : tie.Need-add-t8
 add-t8 c = search needs
 
--- src/moving.rt:42:23
 add-t9 : tie.Need-add-t9
 add-t9 c = search needs
 
--- src/moving.rt:44:26
 add-t10 : tie.Need-add-t10
 add-t10 c = search needs
 
--- src/moving.rt:45:24
 add-t11 : tie.Need-add-t11
 add-t11 c = search needs
 
--- src/moving.rt:26:5
 returns : tie.Need-returns
 returns c =
     let a = c .before .before .before .before .before .args in
     sym (Moves.line-fills (a .page) (a .self) (c .before .before .before .if1 .taken))
 
--- src/moving.rt:26:5
 returns-2 : tie.Need-returns-2
 unfolding afterLine fillsPage
 returns-2 c =

@@ -1,24 +1,19 @@
+-- `layout::Place::line_end` meets its contract: by whether the line holds a cell.
 use borrow.Author.Needs.{needs}
 use mathlib.Core.Path.{_≡_, refl, sym, _∙_, ap}
 use native.Mathlib.Omega.{arith}
 use Rattle.layout.proofs.Moves as Moves
 use Rattle.layout.proofs.Place.line_end.Statement.{statement}
 use Rattle.layout.proofs.Place.line_end.Tie as tie
-use Rattle.layout.proofs.Place.line_end.Reads as reads
-use Rattle.layout.proofs.Place.line_end.Lts as lts
-use Rattle.layout.proofs.Place.line_done.Reads as line-done-reads
 
--- src/moving.rt:56:30
 line-done-requires : tie.Need-line-done-requires
 line-done-requires c κs = search needs
 
--- src/moving.rt:52:5
 returns : tie.Need-returns
 returns c =
     let a = c .before .before .before .args in
     c .line-done .ensures ∙ sym (Moves.line-end-held (a .page) (a .self) (c .before .if1 .taken))
 
--- src/moving.rt:52:5
 returns-2 : tie.Need-returns-2
 returns-2 c =
     let a = c .before .before .args in

@@ -1,3 +1,4 @@
+-- `layout::Place::page_end` meets its contract: by whether the page has a line once the line has ended.
 use borrow.Author.Needs.{needs}
 use Prim.Native.Nat.{ℕ, _+_, _^_, _≤_, _<_}
 use mathlib.Core.Path.{_≡_, refl, sym, _∙_, ap}
@@ -6,15 +7,10 @@ use Rattle.layout.specs.Place.{afterLineEnd, afterPage}
 use Rattle.layout.proofs.Moves as Moves
 use Rattle.layout.proofs.Place.page_end.Statement.{statement}
 use Rattle.layout.proofs.Place.page_end.Tie as tie
-use Rattle.layout.proofs.Place.page_end.Reads as reads
-use Rattle.layout.proofs.Place.page_end.Lts as lts
-use Rattle.layout.proofs.Place.line_end.Reads as line-end-reads
 
--- src/moving.rt:127:13
 line-end-requires : tie.Need-line-end-requires
 line-end-requires c κs = search needs
 
--- src/moving.rt:133:26
 add-t6 : tie.Need-add-t6
 add-t6 c =
     let a = c .before .before .before .before .args in
@@ -22,7 +18,6 @@ add-t6 c =
     let d = Moves.modest-line-end (a .page) (2 ^ 32) (a .self) (c .before .before .before .before .pre) in
     rw e (record { fits = omega arith })
 
--- src/moving.rt:135:24
 add-t7 : tie.Need-add-t7
 add-t7 c =
     let a = c .before .before .before .before .before .args in
@@ -30,7 +25,6 @@ add-t7 c =
     let d = Moves.modest-line-end (a .page) (2 ^ 32) (a .self) (c .before .before .before .before .before .pre) in
     rw e (record { fits = omega arith })
 
--- src/moving.rt:123:5
 returns : tie.Need-returns
 unfolding afterPage
 returns c =
@@ -39,7 +33,6 @@ returns c =
     let l : 0 < afterLineEnd (a .page) (a .self) .line = rw (← e) (c .before .before .if1 .taken) in
     ap afterPage e ∙ sym (Moves.page-end-lined (a .page) (a .self) l)
 
--- src/moving.rt:123:5
 returns-2 : tie.Need-returns-2
 returns-2 c =
     let a = c .before .before .before .args in

@@ -1,23 +1,18 @@
+-- `layout::measuring::flush` meets its contract: by whether cells wait.
 use borrow.Author.Needs.{needs}
 use mathlib.Core.Path.{_≡_, refl, sym, _∙_, ap, subst}
 use borrow.Author.Tests.{lt-ltb, le-ltb, eq-eqb, ne-eqb}
 use Rattle.layout.specs.Gather.{afterFlush}
 use Rattle.layout.proofs.measuring.flush.Statement.{statement}
 use Rattle.layout.proofs.measuring.flush.Tie as tie
-use Rattle.layout.proofs.measuring.flush.Reads as reads
-use Rattle.layout.proofs.measuring.flush.Lts as lts
-use Rattle.layout.proofs.Place.word.Reads as word-reads
 
--- src/measuring.rt:26:16
 word-requires : tie.Need-word-requires
 word-requires c κs = search needs
 
--- src/measuring.rt:22:1
 returns : tie.Need-returns
 unfolding afterFlush
 returns c = c .word .ensures ∙ rw (lt-ltb 0 (c .before .before .args .n) (c .before .if1 .taken))
 
--- src/measuring.rt:22:1
 returns-2 : tie.Need-returns-2
 unfolding afterFlush
 returns-2 c = rw (le-ltb 0 (c .before .args .n) (c .if1 .left))

@@ -1,3 +1,4 @@
+-- `layout::measuring::format` meets its contract: each format sign is its own move, and any other sign is none.
 use borrow.Author.Needs.{needs}
 use Prim.Native.Nat.{ℕ, _+_, _^_, _≤_, _<_}
 use mathlib.Core.Path.{_≡_, refl, sym, _∙_, ap, subst}
@@ -7,58 +8,43 @@ use Rattle.layout.specs.Place.{afterItem}
 use Rattle.layout.specs.Gather.{afterFormat}
 use Rattle.layout.proofs.measuring.format.Statement.{statement}
 use Rattle.layout.proofs.measuring.format.Tie as tie
-use Rattle.layout.proofs.measuring.format.Reads as reads
-use Rattle.layout.proofs.measuring.format.Lts as lts
-use Rattle.layout.proofs.Place.empty_line.Reads as empty-line-reads
-use Rattle.layout.proofs.Place.line_end.Reads as line-end-reads
-use Rattle.layout.proofs.Place.page_end.Reads as page-end-reads
-use Rattle.layout.proofs.Place.paragraph.Reads as paragraph-reads
 
--- src/measuring.rt:35:15
 line-end-requires : tie.Need-line-end-requires
 line-end-requires c κs = search needs
 
--- src/measuring.rt:36:15
 empty-line-requires : tie.Need-empty-line-requires
 empty-line-requires c κs = search needs
 
--- src/measuring.rt:37:15
 paragraph-requires : tie.Need-paragraph-requires
 paragraph-requires c κs = search needs
 
--- src/measuring.rt:38:15
 page-end-requires : tie.Need-page-end-requires
 page-end-requires c κs = search needs
 
--- src/measuring.rt:30:1
 returns : tie.Need-returns
 unfolding afterFormat formatOf afterItem
 returns c =
     let a = c .before .before .args in
     c .line-end .ensures ∙ ap (λ (g : ℕ). afterFormat (a .width) (a .page) (a .p) g) (sym (c .before .match .keys1))
 
--- src/measuring.rt:30:1
 returns-2 : tie.Need-returns-2
 unfolding afterFormat formatOf afterItem
 returns-2 c =
     let a = c .before .before .args in
     c .empty-line .ensures ∙ ap (λ (g : ℕ). afterFormat (a .width) (a .page) (a .p) g) (sym (c .before .match .keys2))
 
--- src/measuring.rt:30:1
 returns-3 : tie.Need-returns-3
 unfolding afterFormat formatOf afterItem
 returns-3 c =
     let a = c .before .before .args in
     c .paragraph .ensures ∙ ap (λ (g : ℕ). afterFormat (a .width) (a .page) (a .p) g) (sym (c .before .match .keys3))
 
--- src/measuring.rt:30:1
 returns-4 : tie.Need-returns-4
 unfolding afterFormat formatOf afterItem
 returns-4 c =
     let a = c .before .before .args in
     c .page-end .ensures ∙ ap (λ (g : ℕ). afterFormat (a .width) (a .page) (a .p) g) (sym (c .before .match .keys4))
 
--- src/measuring.rt:30:1
 returns-5 : tie.Need-returns-5
 unfolding afterFormat formatOf
 returns-5 c =

@@ -1,11 +1,9 @@
+-- `layout::measuring::is_format` meets its contract: the four tests are the definition's.
 use mathlib.Core.Path.{sym}
 use Rattle.layout.proofs.Gather.{format-test}
 use Rattle.layout.proofs.measuring.is_format.Statement.{statement}
 use Rattle.layout.proofs.measuring.is_format.Tie as tie
-use Rattle.layout.proofs.measuring.is_format.Reads as reads
-use Rattle.layout.proofs.measuring.is_format.Lts as lts
 
--- src/measuring.rt:15:1
 returns : tie.Need-returns
 returns c = sym (format-test (c .args .g))
 

@@ -1,3 +1,5 @@
+-- `layout::measuring::measure` meets its contract. The loop's invariant: some cells wait, fewer than the width, and what is left to do from here with them
+-- ends where the whole ends. A sign adds at most 70 to each number of the place.
 use Prim.Native.Nat.{ℕ, zero, suc, _+_, _*_, _-_, _^_, _≤_, _<_}
 use mathlib.Core.List.{List, [], _∷_}
 use mathlib.Core.Path.{_≡_, refl, sym, _∙_, ap, subst}
@@ -14,12 +16,6 @@ use Rattle.layout.proofs.Moves as Moves
 use Rattle.layout.proofs.Gather as Gather
 use Rattle.layout.proofs.measuring.measure.Statement.{statement}
 use Rattle.layout.proofs.measuring.measure.Tie as tie
-use Rattle.layout.proofs.measuring.measure.Reads as reads
-use Rattle.layout.proofs.measuring.measure.Lts as lts
-use Rattle.layout.proofs.Place.first.Reads as first-reads
-use Rattle.layout.proofs.Place.page_end.Reads as page-end-reads
-use Rattle.layout.proofs.measuring.flush.Reads as flush-reads
-use Rattle.layout.proofs.measuring.step.Reads as step-reads
 
 abbrev Inv-loop : tie.InvT-loop
 Inv-loop signs width page p₀ n₀ i₀ p n i =
@@ -29,24 +25,22 @@ Inv-loop signs width page p₀ n₀ i₀ p n i =
 abbrev μ-loop : tie.MeasureT-loop
 μ-loop signs width page p₀ n₀ i₀ p n i = length signs - i
 
--- src/measuring.rt:71:9
 first-requires : tie.Need-first-requires Inv-loop μ-loop
 first-requires c κs = search needs
 
--- src/measuring.rt:74:5
 loop-holds : tie.Need-loop-holds Inv-loop μ-loop
 unfolding afterRest volumeEnd itemsOf wordsOf
 loop-holds c =
-    rw (c .first .ensures)
-    (omega arith, omega arith,
-    record { column-most = omega arith; line-most = omega arith; written-most = omega arith; lines-most = omega arith; pages-most = omega arith },
-    ([], refl, refl))
+    rw (c .first .ensures) (
+      omega arith,
+      omega arith,
+      record { column-most = omega arith; line-most = omega arith; written-most = omega arith; lines-most = omega arith; pages-most = omega arith },
+      ([], refl, refl),
+    )
 
--- src/measuring.rt:75:28
 shared-slice-read-step : tie.Need-shared-slice-read-step Inv-loop μ-loop
 shared-slice-read-step c = omega arith
 
--- src/measuring.rt:75:13
 step-requires : tie.Need-step-requires Inv-loop μ-loop
 step-requires c κs =
     let v = c .before .before .loop .inv in
@@ -54,15 +48,12 @@ step-requires c κs =
     let i : 70 * c .before .before .loop .i ≤ 2 ^ 31 = omega arith in
     (Moves.modest-more i (v .2), omega arith)
 
--- src/measuring.rt:78:9
 add-i : tie.Need-add-i Inv-loop μ-loop
 add-i c = omega arith
 
--- src/measuring.rt:74:5
 loop-less : tie.Need-loop-less Inv-loop μ-loop
 loop-less c = omega arith
 
--- src/measuring.rt:74:5
 loop-again : tie.Need-loop-again Inv-loop μ-loop
 loop-again c =
     let a = c .before .before .before .before .before .before .before .args in
@@ -77,12 +68,13 @@ loop-again c =
     let e : c .before .step .result ≡ stepped (a .width) (a .page) (l .p) (length cells) g = c .before .step .ensures ∙ ap (λ (n : ℕ). stepped (a .width) (a .page) (l .p) n g) (sym size) in
     let w = Gather.waiting-length (a .width) (a .page) (pre .1) (l .p) cells g in
     let b = Gather.waiting-below (a .width) (a .page) (pre .1) cells g below in
-    rw e
-    (omega arith, rw (← w) b,
-    Moves.modest-more (omega arith) (Gather.modest-step (a .width) (a .page) (70 * l .i) (length cells) g (l .p) (omega arith) (v .2)),
-    (waiting (a .width) cells g, w, sym (Gather.turn-after (a .width) (a .page) (pre .1) (a .signs .now) (l .i) there (l .p) cells below) ∙ v .3 .2))
+    rw e (
+      omega arith,
+      rw (← w) b,
+      Moves.modest-more (omega arith) (Gather.modest-step (a .width) (a .page) (70 * l .i) (length cells) g (l .p) (omega arith) (v .2)),
+      (waiting (a .width) cells g, w, sym (Gather.turn-after (a .width) (a .page) (pre .1) (a .signs .now) (l .i) there (l .p) cells below) ∙ v .3 .2),
+    )
 
--- src/measuring.rt:80:5
 flush-requires : tie.Need-flush-requires Inv-loop μ-loop
 flush-requires c κs =
     let v = c .before .loop .inv in
@@ -90,7 +82,6 @@ flush-requires c κs =
     let i : 70 * c .before .loop .i ≤ 2 ^ 32 = omega arith in
     (Moves.modest-more i (v .2), omega arith)
 
--- src/measuring.rt:80:5
 page-end-requires : tie.Need-page-end-requires Inv-loop μ-loop
 page-end-requires c κs =
     let a = c .before .before .before .before .before .args in
@@ -100,7 +91,6 @@ page-end-requires c κs =
     let i : 70 * l .i + 4 + l .n ≤ 2 ^ 32 = omega arith in
     rw (c .flush .ensures) (Moves.modest-more i (Gather.modest-flush (a .width) (a .page) (70 * l .i) (l .n) (l .p) (v .2)))
 
--- src/measuring.rt:67:1
 returns : tie.Need-returns Inv-loop μ-loop
 returns c =
     let a = c .before .before .before .before .before .before .args in

@@ -1,3 +1,4 @@
+-- `layout::measuring::step` meets its contract: a blank, a format sign, the cell that fills the line, a cell that waits.
 use borrow.Author.Needs.{needs}
 use Prim.Native.Nat.{ℕ, zero, suc, _+_, _*_, _-_, _^_, _≤_, _<_}
 use mathlib.Core.Path.{_≡_, refl, sym, _∙_, ap, subst}
@@ -10,42 +11,30 @@ use Rattle.layout.proofs.Moves as Moves
 use Rattle.layout.proofs.Gather as Gather
 use Rattle.layout.proofs.measuring.step.Statement.{statement}
 use Rattle.layout.proofs.measuring.step.Tie as tie
-use Rattle.layout.proofs.measuring.step.Reads as reads
-use Rattle.layout.proofs.measuring.step.Lts as lts
-use Rattle.layout.proofs.Place.word.Reads as word-reads
-use Rattle.layout.proofs.measuring.flush.Reads as flush-reads
-use Rattle.layout.proofs.measuring.format.Reads as format-reads
-use Rattle.layout.proofs.measuring.is_format.Reads as is-format-reads
 
 waits : Place → ℕ → Gathering
 waits q n = record { place = q; cells = n }
 
--- src/measuring.rt:49:13
 flush-requires : tie.Need-flush-requires
 flush-requires c κs = search needs
 
--- src/measuring.rt:50:9
 returns : tie.Need-returns
 unfolding stepped waits
 returns c =
     rw (eq-eqb (c .before .before .args .g) 0 (c .before .if1 .taken)) (ap (λ (q : Place). waits q 0) (c .flush .ensures))
 
--- src/measuring.rt:52:8
 is-format-requires : tie.Need-is-format-requires
 is-format-requires c κs = search needs
 
--- src/measuring.rt:53:24
 flush-requires-2 : tie.Need-flush-requires-2
 flush-requires-2 c κs = search needs
 
--- src/measuring.rt:53:13
 format-requires : tie.Need-format-requires
 format-requires c κs =
     let a = c .before .before .before .before .args in
     let pre = c .before .before .before .before .pre in
     rw (c .flush2 .ensures) (Moves.modest-more (omega arith) (Gather.modest-flush (a .width) (a .page) (2 ^ 31) (a .n) (a .p) (pre .0)))
 
--- src/measuring.rt:54:9
 returns-2 : tie.Need-returns-2
 unfolding stepped waits
 returns-2 c =
@@ -53,19 +42,15 @@ returns-2 c =
     rw (ne-eqb (a .g) 0 (c .before .before .before .before .if1 .left), ← (c .before .before .before .is-format .ensures), c .before .before .if2 .taken)
     (ap (λ (q : Place). waits q 0) (c .format .ensures ∙ ap (λ (q : Place). afterFormat (a .width) (a .page) q (a .g)) (c .before .flush2 .ensures)))
 
--- src/measuring.rt:56:8
 add-if3 : tie.Need-add-if3
 add-if3 c = search needs
 
--- src/measuring.rt:57:37
 add-word : tie.Need-add-word
 add-word c = search needs
 
--- src/measuring.rt:57:13
 word-requires : tie.Need-word-requires
 word-requires c κs = search needs
 
--- src/measuring.rt:58:9
 returns-3 : tie.Need-returns-3
 unfolding stepped waits
 returns-3 c =
@@ -74,11 +59,9 @@ returns-3 c =
     (ne-eqb (a .g) 0 (c .before .before .before .before .if1 .left), ← (c .before .before .before .is-format .ensures), c .before .before .if2 .left, eq-eqb (a .n + 1) (a .width) (c .before .if3 .taken))
     (ap (λ (q : Place). waits q 0) (c .word .ensures))
 
--- src/measuring.rt:62:16
 add-t12 : tie.Need-add-t12
 add-t12 c = search needs
 
--- src/measuring.rt:44:1
 returns-4 : tie.Need-returns-4
 unfolding stepped
 returns-4 c =

@@ -1,3 +1,4 @@
+-- `layout::writing::put_blanks` meets its contract. The loop's invariant: the first j blanks are stored.
 use Prim.Native.Nat.{ℕ, zero, suc, _+_, _*_, _-_, _^_, _≤_, _<_}
 use mathlib.Core.Path.{_≡_, refl, sym, _∙_, ap, subst}
 use native.Mathlib.Omega.{arith}
@@ -8,8 +9,6 @@ use Rattle.layout.proofs.Sets.{sets-append, run-more, blank-more}
 use mathlib.Core.List.{List}
 use Rattle.layout.proofs.writing.put_blanks.Statement.{statement}
 use Rattle.layout.proofs.writing.put_blanks.Tie as tie
-use Rattle.layout.proofs.writing.put_blanks.Reads as reads
-use Rattle.layout.proofs.writing.put_blanks.Lts as lts
 
 abbrev Inv-loop : tie.InvT-loop
 Inv-loop out₀ at blanks j₀ out j = (j ≤ blanks) × (length out ≡ length out₀) × (out ≡ sets out₀ at (replicate j 0))
@@ -17,27 +16,21 @@ Inv-loop out₀ at blanks j₀ out j = (j ≤ blanks) × (length out ≡ length 
 abbrev μ-loop : tie.MeasureT-loop
 μ-loop out₀ at blanks j₀ out j = blanks - j
 
--- src/writing.rt:22:5
 loop-holds : tie.Need-loop-holds Inv-loop μ-loop
 loop-holds c = (omega arith, refl, refl)
 
--- src/writing.rt:23:13
 add-out : tie.Need-add-out Inv-loop μ-loop
 add-out c = omega arith
 
--- src/writing.rt:23:9
 slice-write-out : tie.Need-slice-write-out Inv-loop μ-loop
 slice-write-out c = omega arith
 
--- src/writing.rt:24:9
 add-j : tie.Need-add-j Inv-loop μ-loop
 add-j c = omega arith
 
--- src/writing.rt:22:5
 loop-less : tie.Need-loop-less Inv-loop μ-loop
 loop-less c = omega arith
 
--- src/writing.rt:22:5
 loop-again : tie.Need-loop-again Inv-loop μ-loop
 loop-again c =
     let a = c .before .before .args in
@@ -46,11 +39,9 @@ loop-again c =
     let s = length-set (l .out) (a .at + l .j) 0 in
     (omega arith, s ∙ v .1, ap (λ (o : List ℕ). set o (a .at + l .j) 0) (v .2) ∙ blank-more (a .out .now) (a .at) (l .j))
 
--- src/writing.rt:17:1
 same-length : tie.Need-same-length Inv-loop μ-loop
 same-length c = c .before .loop .inv .1
 
--- src/writing.rt:17:1
 returns : tie.Need-returns Inv-loop μ-loop
 returns c =
     let a = c .before .before .args in

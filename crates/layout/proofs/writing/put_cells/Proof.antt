@@ -1,3 +1,4 @@
+-- `layout::writing::put_cells` meets its contract: one run after the other.
 use borrow.Author.Needs.{needs}
 use Prim.Native.Nat.{ℕ, suc, _+_, _^_, _≤_, _<_}
 use mathlib.Core.List.{List, [], _∷_, _++_}
@@ -14,36 +15,27 @@ use Rattle.layout.proofs.Sets.{sets-append, put-then}
 use lib.ListN.{replicate, length-replicate}
 use Rattle.layout.proofs.writing.put_cells.Statement.{statement}
 use Rattle.layout.proofs.writing.put_cells.Tie as tie
-use Rattle.layout.proofs.writing.put_cells.Reads as reads
-use Rattle.layout.proofs.writing.put_cells.Lts as lts
-use Rattle.layout.proofs.writing.put_blanks.Reads as put-blanks-reads
-use Rattle.layout.proofs.writing.put_run.Reads as put-run-reads
 
--- src/writing.rt:45:5
 put-blanks-requires : tie.Need-put-blanks-requires
 put-blanks-requires c κs = search needs
 
--- src/writing.rt:46:18
 add-put-run : tie.Need-add-put-run
 add-put-run c = search needs
 
--- src/writing.rt:46:5
 put-run-requires : tie.Need-put-run-requires
 put-run-requires c κs = search needs
 
--- src/writing.rt:41:1
 same-length : tie.Need-same-length
 same-length c = search needs
 
--- src/writing.rt:41:1
 returns : tie.Need-returns
 unfolding cellsAfter
 returns c =
     let a = c .before .before .before .before .before .before .before .before .before .before .args in
     record {
-        page =
-            put-then (a .out .now) _ _ (a .at) (replicate (a .blanks) 0) (a .cells .now) (c .before .before .before .before .before .before .put-blanks .ensures .page) (c .before .before .put-run .ensures .page)
-            (ap (λ (n : ℕ). a .at + n) (sym (length-replicate (a .blanks) 0)))
+      page =
+          put-then (a .out .now) _ _ (a .at) (replicate (a .blanks) 0) (a .cells .now) (c .before .before .before .before .before .before .put-blanks .ensures .page) (c .before .before .put-run .ensures .page)
+          (ap (λ (n : ℕ). a .at + n) (sym (length-replicate (a .blanks) 0)));
     }
 
 pub put-cells-spec : {M : Type 1} → statement M

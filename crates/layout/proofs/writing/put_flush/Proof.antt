@@ -1,3 +1,4 @@
+-- `layout::writing::put_flush` meets its contract: by whether cells wait.
 use borrow.Author.Needs.{needs}
 use Prim.Native.Nat.{ℕ, suc, _+_, _^_, _≤_, _<_}
 use mathlib.Core.List.{List, [], _∷_, _++_}
@@ -13,29 +14,22 @@ use Rattle.layout.specs.declared.Place.{Place}
 use Rattle.layout.proofs.Moves as Moves
 use Rattle.layout.proofs.writing.put_flush.Statement.{statement}
 use Rattle.layout.proofs.writing.put_flush.Tie as tie
-use Rattle.layout.proofs.writing.put_flush.Reads as reads
-use Rattle.layout.proofs.writing.put_flush.Lts as lts
-use Rattle.layout.proofs.writing.put_word.Reads as put-word-reads
 
--- src/writing.rt:147:9
 put-word-requires : tie.Need-put-word-requires
 unfolding flushBytes
 put-word-requires c κs =
     let a = c .before .before .before .before .args in
     rw (lt-ltb 0 (length (a .cells .now)) (c .before .if1 .taken)) at (c .before .before .before .before .pre)
 
--- src/writing.rt:147:9
 same-length : tie.Need-same-length
 same-length c = search needs
 
--- src/writing.rt:147:9
 returns : tie.Need-returns
 unfolding flushBytes afterFlush
 returns c =
     let a = c .before .before .before .before .before .before .before .args in
     rw (lt-ltb 0 (length (a .cells .now)) (c .before .before .before .before .if1 .taken)) (c .before .before .put-word .ensures)
 
--- src/writing.rt:142:1
 returns-2 : tie.Need-returns-2
 unfolding flushBytes afterFlush
 returns-2 c =

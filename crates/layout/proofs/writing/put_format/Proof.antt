@@ -1,3 +1,4 @@
+-- `layout::writing::put_format` meets its contract: each format sign is its own move, and any other sign is none.
 use borrow.Author.Needs.{needs}
 use Prim.Native.Nat.{ℕ, suc, _+_, _^_, _≤_, _<_}
 use mathlib.Core.List.{List, [], _∷_, _++_}
@@ -14,14 +15,7 @@ use Rattle.layout.proofs.Moves as Moves
 use Rattle.layout.specs.Writing.{Moved, Room}
 use Rattle.layout.proofs.writing.put_format.Statement.{statement}
 use Rattle.layout.proofs.writing.put_format.Tie as tie
-use Rattle.layout.proofs.writing.put_format.Reads as reads
-use Rattle.layout.proofs.writing.put_format.Lts as lts
-use Rattle.layout.proofs.writing.put_empty_line.Reads as put-empty-line-reads
-use Rattle.layout.proofs.writing.put_line_end.Reads as put-line-end-reads
-use Rattle.layout.proofs.writing.put_page_end.Reads as put-page-end-reads
-use Rattle.layout.proofs.writing.put_paragraph.Reads as put-paragraph-reads
 
--- src/writing.rt:158:9
 put-line-end-requires : tie.Need-put-line-end-requires
 unfolding formatBytes formatOf itemBytes
 put-line-end-requires c κs =
@@ -30,11 +24,9 @@ put-line-end-requires c κs =
     let pre = subst (λ (g : ℕ). Room (2 ^ 32) (a .out .now) (a .p) (formatBytes (a .width) (a .page) (a .p) g)) e (c .before .before .before .pre) in
     record { modest = Moves.modest-more (omega arith) (pre .modest); room = pre .room }
 
--- src/writing.rt:158:9
 same-length : tie.Need-same-length
 same-length c = search needs
 
--- src/writing.rt:158:9
 returns : tie.Need-returns
 unfolding formatBytes afterFormat formatOf itemBytes afterItem
 returns c =
@@ -45,7 +37,6 @@ returns c =
     subst (λ (g : ℕ). Moved (a .out .now) (a .p) (formatBytes (a .width) (a .page) (a .p) g) m (afterFormat (a .width) (a .page) (a .p) g) r) (sym e)
     (c .before .before .put-line-end .ensures)
 
--- src/writing.rt:161:9
 put-empty-line-requires : tie.Need-put-empty-line-requires
 unfolding formatBytes formatOf itemBytes
 put-empty-line-requires c κs =
@@ -54,11 +45,9 @@ put-empty-line-requires c κs =
     let pre = subst (λ (g : ℕ). Room (2 ^ 32) (a .out .now) (a .p) (formatBytes (a .width) (a .page) (a .p) g)) e (c .before .before .before .before .pre) in
     pre
 
--- src/writing.rt:161:9
 same-length-2 : tie.Need-same-length-2
 same-length-2 c = search needs
 
--- src/writing.rt:161:9
 returns-2 : tie.Need-returns-2
 unfolding formatBytes afterFormat formatOf itemBytes afterItem
 returns-2 c =
@@ -69,7 +58,6 @@ returns-2 c =
     subst (λ (g : ℕ). Moved (a .out .now) (a .p) (formatBytes (a .width) (a .page) (a .p) g) m (afterFormat (a .width) (a .page) (a .p) g) r) (sym e)
     (c .before .before .put-empty-line .ensures)
 
--- src/writing.rt:164:9
 put-paragraph-requires : tie.Need-put-paragraph-requires
 unfolding formatBytes formatOf itemBytes
 put-paragraph-requires c κs =
@@ -78,11 +66,9 @@ put-paragraph-requires c κs =
     let pre = subst (λ (g : ℕ). Room (2 ^ 32) (a .out .now) (a .p) (formatBytes (a .width) (a .page) (a .p) g)) e (c .before .before .before .before .before .pre) in
     pre
 
--- src/writing.rt:164:9
 same-length-3 : tie.Need-same-length-3
 same-length-3 c = search needs
 
--- src/writing.rt:164:9
 returns-3 : tie.Need-returns-3
 unfolding formatBytes afterFormat formatOf itemBytes afterItem
 returns-3 c =
@@ -93,7 +79,6 @@ returns-3 c =
     subst (λ (g : ℕ). Moved (a .out .now) (a .p) (formatBytes (a .width) (a .page) (a .p) g) m (afterFormat (a .width) (a .page) (a .p) g) r) (sym e)
     (c .before .before .put-paragraph .ensures)
 
--- src/writing.rt:167:9
 put-page-end-requires : tie.Need-put-page-end-requires
 unfolding formatBytes formatOf itemBytes
 put-page-end-requires c κs =
@@ -102,11 +87,9 @@ put-page-end-requires c κs =
     let pre = subst (λ (g : ℕ). Room (2 ^ 32) (a .out .now) (a .p) (formatBytes (a .width) (a .page) (a .p) g)) e (c .before .before .before .before .before .before .pre) in
     pre
 
--- src/writing.rt:167:9
 same-length-4 : tie.Need-same-length-4
 same-length-4 c = search needs
 
--- src/writing.rt:167:9
 returns-4 : tie.Need-returns-4
 unfolding formatBytes afterFormat formatOf itemBytes afterItem
 returns-4 c =
@@ -117,7 +100,6 @@ returns-4 c =
     subst (λ (g : ℕ). Moved (a .out .now) (a .p) (formatBytes (a .width) (a .page) (a .p) g) m (afterFormat (a .width) (a .page) (a .p) g) r) (sym e)
     (c .before .before .put-page-end .ensures)
 
--- src/writing.rt:153:1
 returns-5 : tie.Need-returns-5
 unfolding formatBytes afterFormat formatOf
 returns-5 c =

@@ -1,3 +1,4 @@
+-- `layout::writing::put_line` meets its contract: by whether one more line fills the page.
 use borrow.Author.Needs.{needs}
 use Prim.Native.Nat.{ℕ, suc, _+_, _^_, _≤_, _<_}
 use mathlib.Core.List.{List, [], _∷_, _++_}
@@ -13,15 +14,10 @@ use Rattle.layout.proofs.Bytes as Bytes
 use Rattle.layout.proofs.Sets.{sets-append, put-then}
 use Rattle.layout.proofs.writing.put_line.Statement.{statement}
 use Rattle.layout.proofs.writing.put_line.Tie as tie
-use Rattle.layout.proofs.writing.put_line.Reads as reads
-use Rattle.layout.proofs.writing.put_line.Lts as lts
-use Rattle.layout.proofs.Place.line_done.Reads as line-done-reads
 
--- src/writing.rt:55:8
 add-if1 : tie.Need-add-if1
 add-if1 c = search needs
 
--- src/writing.rt:56:9
 slice-write-out : tie.Need-slice-write-out
 slice-write-out c =
     let a = c .before .before .before .args in
@@ -29,11 +25,9 @@ slice-write-out c =
     let n = ap length (Bytes.line-bytes-full (a .page) (a .p) (c .if1 .taken)) in
     omega arith
 
--- src/writing.rt:57:13
 add-out : tie.Need-add-out
 add-out c = search needs
 
--- src/writing.rt:57:9
 slice-write-out-2 : tie.Need-slice-write-out-2
 slice-write-out-2 c =
     let a = c .before .before .before .args in
@@ -41,24 +35,20 @@ slice-write-out-2 c =
     let n = ap length (Bytes.line-bytes-full (a .page) (a .p) (c .if1 .taken)) in
     simp length-set (omega arith)
 
--- src/writing.rt:58:9
 line-done-requires : tie.Need-line-done-requires
 line-done-requires c κs = search needs
 
--- src/writing.rt:58:9
 same-length : tie.Need-same-length
 same-length c = search needs
 
--- src/writing.rt:58:9
 returns : tie.Need-returns
 returns c =
     let a = c .before .before .before .before .args in
     record {
-        place = c .line-done .ensures;
-        page = rw (Bytes.line-bytes-full (a .page) (a .p) (c .before .if1 .taken), add-one (a .p .written))
+      place = c .line-done .ensures;
+      page = rw (Bytes.line-bytes-full (a .page) (a .p) (c .before .if1 .taken), add-one (a .p .written));
     }
 
--- src/writing.rt:60:5
 slice-write-out-3 : tie.Need-slice-write-out-3
 slice-write-out-3 c =
     let a = c .before .before .before .args in
@@ -66,15 +56,12 @@ slice-write-out-3 c =
     let n = ap length (Bytes.line-bytes-on (a .page) (a .p) (c .if1 .left)) in
     omega arith
 
--- src/writing.rt:61:5
 line-done-requires-2 : tie.Need-line-done-requires-2
 line-done-requires-2 c κs = search needs
 
--- src/writing.rt:50:1
 same-length-2 : tie.Need-same-length-2
 same-length-2 c = search needs
 
--- src/writing.rt:50:1
 returns-2 : tie.Need-returns-2
 returns-2 c =
     let a = c .before .before .before .before .args in

@@ -1,3 +1,4 @@
+-- `layout::writing::put_line_end` meets its contract: by whether the line holds a cell.
 use borrow.Author.Needs.{needs}
 use Prim.Native.Nat.{ℕ, suc, _+_, _^_, _≤_, _<_}
 use mathlib.Core.List.{List, [], _∷_, _++_}
@@ -13,33 +14,26 @@ use Rattle.layout.proofs.Bytes as Bytes
 use Rattle.layout.proofs.Sets.{sets-append, put-then}
 use Rattle.layout.proofs.writing.put_line_end.Statement.{statement}
 use Rattle.layout.proofs.writing.put_line_end.Tie as tie
-use Rattle.layout.proofs.writing.put_line_end.Reads as reads
-use Rattle.layout.proofs.writing.put_line_end.Lts as lts
-use Rattle.layout.proofs.writing.put_line.Reads as put-line-reads
 
--- src/writing.rt:70:9
 put-line-requires : tie.Need-put-line-requires
 put-line-requires c κs =
     let a = c .before .before .before .before .args in
     let pre = c .before .before .before .before .pre in
     rw (← (Bytes.line-end-bytes-held (a .page) (a .p) (c .before .if1 .taken))) pre
 
--- src/writing.rt:70:9
 same-length : tie.Need-same-length
 same-length c = search needs
 
--- src/writing.rt:70:9
 returns : tie.Need-returns
 returns c =
     let a = c .before .before .before .before .before .before .before .args in
     let held = c .before .before .before .before .if1 .taken in
     let e = c .before .before .put-line .ensures in
     record {
-        place = e .place ∙ sym (Moves.line-end-held (a .page) (a .p) held);
-        page = e .page ∙ ap (λ (r : List ℕ). sets (a .out .now) (a .p .written) r) (sym (Bytes.line-end-bytes-held (a .page) (a .p) held))
+      place = e .place ∙ sym (Moves.line-end-held (a .page) (a .p) held);
+      page = e .page ∙ ap (λ (r : List ℕ). sets (a .out .now) (a .p .written) r) (sym (Bytes.line-end-bytes-held (a .page) (a .p) held));
     }
 
--- src/writing.rt:65:1
 returns-2 : tie.Need-returns-2
 returns-2 c =
     let a = c .before .before .before .args in

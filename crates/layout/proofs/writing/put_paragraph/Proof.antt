@@ -1,3 +1,4 @@
+-- `layout::writing::put_paragraph` meets its contract: the bytes are those of sign 70.
 use borrow.Author.Needs.{needs}
 use Prim.Native.Nat.{ℕ, suc, _+_, _^_, _≤_, _<_}
 use mathlib.Core.List.{List, [], _∷_, _++_}
@@ -13,22 +14,16 @@ use Rattle.layout.specs.declared.Place.{Place}
 use Rattle.layout.proofs.Moves as Moves
 use Rattle.layout.proofs.writing.put_paragraph.Statement.{statement}
 use Rattle.layout.proofs.writing.put_paragraph.Tie as tie
-use Rattle.layout.proofs.writing.put_paragraph.Reads as reads
-use Rattle.layout.proofs.writing.put_paragraph.Lts as lts
-use Rattle.layout.proofs.writing.put_line_end.Reads as put-line-end-reads
 
--- src/writing.rt:130:9
 put-line-end-requires : tie.Need-put-line-end-requires
 unfolding paragraphBytes
 put-line-end-requires c κs =
     let pre = c .before .before .pre in
     record { modest = Moves.modest-more (omega arith) (pre .modest); room = pre .room }
 
--- src/writing.rt:126:1
 same-length : tie.Need-same-length
 same-length c = search needs
 
--- src/writing.rt:126:1
 returns : tie.Need-returns
 unfolding paragraphBytes afterParagraph
 returns c =

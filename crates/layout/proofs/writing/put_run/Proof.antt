@@ -1,3 +1,4 @@
+-- `layout::writing::put_run` meets its contract. The loop's invariant: the first j cells are stored.
 use Prim.Native.Nat.{ℕ, zero, suc, _+_, _*_, _-_, _^_, _≤_, _<_}
 use mathlib.Core.Path.{_≡_, refl, sym, _∙_, ap, subst}
 use native.Mathlib.Omega.{arith}
@@ -8,8 +9,6 @@ use Rattle.layout.proofs.Sets.{sets-append, run-more, blank-more}
 use mathlib.Core.List.{List}
 use Rattle.layout.proofs.writing.put_run.Statement.{statement}
 use Rattle.layout.proofs.writing.put_run.Tie as tie
-use Rattle.layout.proofs.writing.put_run.Reads as reads
-use Rattle.layout.proofs.writing.put_run.Lts as lts
 
 abbrev Inv-loop : tie.InvT-loop
 Inv-loop out₀ at cells j₀ out j = (j ≤ length cells) × (length out ≡ length out₀) × (out ≡ sets out₀ at (take j cells))
@@ -17,46 +16,39 @@ Inv-loop out₀ at cells j₀ out j = (j ≤ length cells) × (length out ≡ le
 abbrev μ-loop : tie.MeasureT-loop
 μ-loop out₀ at cells j₀ out j = length cells - j
 
--- src/writing.rt:34:5
 loop-holds : tie.Need-loop-holds Inv-loop μ-loop
 loop-holds c = (omega arith, refl, refl)
 
--- src/writing.rt:35:23
 shared-slice-read-out : tie.Need-shared-slice-read-out Inv-loop μ-loop
 shared-slice-read-out c = omega arith
 
--- src/writing.rt:35:13
 add-out : tie.Need-add-out Inv-loop μ-loop
 add-out c = omega arith
 
--- src/writing.rt:35:9
 slice-write-out : tie.Need-slice-write-out Inv-loop μ-loop
 slice-write-out c = omega arith
 
--- src/writing.rt:36:9
 add-j : tie.Need-add-j Inv-loop μ-loop
 add-j c = omega arith
 
--- src/writing.rt:34:5
 loop-less : tie.Need-loop-less Inv-loop μ-loop
 loop-less c = omega arith
 
--- src/writing.rt:34:5
 loop-again : tie.Need-loop-again Inv-loop μ-loop
 loop-again c =
     let a = c .before .before .before .args in
     let l = c .before .before .loop in
     let v = l .inv in
     let there : l .j < length (a .cells .now) = omega arith in
-    let s = length-set (l .out) (a .at + l .j) (getD (a .cells .now) (l .j) 0) in
-    (omega arith, s ∙ v .1,
-    ap (λ (o : List ℕ). set o (a .at + l .j) (getD (a .cells .now) (l .j) 0)) (v .2) ∙ run-more (a .out .now) (a .at) (a .cells .now) (l .j) there)
+    let s = length-set (l .out) (a .at + l .j) (getD (a .cells .now) (l .j) 0) in (
+      omega arith,
+      s ∙ v .1,
+      ap (λ (o : List ℕ). set o (a .at + l .j) (getD (a .cells .now) (l .j) 0)) (v .2) ∙ run-more (a .out .now) (a .at) (a .cells .now) (l .j) there,
+    )
 
--- src/writing.rt:29:1
 same-length : tie.Need-same-length Inv-loop μ-loop
 same-length c = c .before .loop .inv .1
 
--- src/writing.rt:29:1
 returns : tie.Need-returns Inv-loop μ-loop
 returns c =
     let a = c .before .before .args in

@@ -1,3 +1,4 @@
+-- `layout::writing::put_sign` meets its contract: a blank, a format sign, the cell that fills the line, a cell that waits, as the laws of a step have it.
 use borrow.Author.Needs.{needs}
 use Prim.Native.Nat.{ℕ, suc, _+_, _^_, _≤_, _<_}
 use mathlib.Core.List.{List, [], _∷_, _++_}
@@ -17,27 +18,18 @@ use Rattle.layout.proofs.Steps as Steps
 use Rattle.layout.proofs.Sets.{put-then}
 use Rattle.layout.proofs.writing.put_sign.Statement.{statement}
 use Rattle.layout.proofs.writing.put_sign.Tie as tie
-use Rattle.layout.proofs.writing.put_sign.Reads as reads
-use Rattle.layout.proofs.writing.put_sign.Lts as lts
-use Rattle.layout.proofs.measuring.is_format.Reads as is-format-reads
-use Rattle.layout.proofs.writing.put_flush.Reads as put-flush-reads
-use Rattle.layout.proofs.writing.put_format.Reads as put-format-reads
-use Rattle.layout.proofs.writing.put_word.Reads as put-word-reads
 
 abbrev waits : Place → ℕ → Gathering
 waits q n = record { place = q; cells = n }
 
--- src/writing.rt:178:35
 slice-reshare-prefix-put-flush : tie.Need-slice-reshare-prefix-put-flush
 slice-reshare-prefix-put-flush c = search needs
 
--- src/writing.rt:178:35
 slice-aggregate-put-flush : tie.Need-slice-aggregate-put-flush
 slice-aggregate-put-flush c =
     let a = c .before .before .before .before .before .args in
     sym (length-take-le (a .n) (a .word .now) (omega arith))
 
--- src/writing.rt:178:13
 put-flush-requires : tie.Need-put-flush-requires
 put-flush-requires c κs =
     let a = c .before .before .before .before .before .args in
@@ -48,15 +40,12 @@ put-flush-requires c κs =
     let r = rw (s .bytes-are) at (pre .0 .room) in
     (record { modest = Moves.modest-more (omega arith) (pre .0 .modest); room = r }, omega arith)
 
--- src/writing.rt:179:9
 same-length : tie.Need-same-length
 same-length c = search needs
 
--- src/writing.rt:179:9
 same-length-2 : tie.Need-same-length-2
 same-length-2 c = search needs
 
--- src/writing.rt:179:9
 returns : tie.Need-returns
 returns c =
     let a = c .before .before .before .before .before .before .before .before .args in
@@ -66,26 +55,22 @@ returns c =
     let s = Steps.step-blank (a .width) (a .page) (a .p) cells (a .n) (a .g) size (c .before .before .before .before .before .if1 .taken) in
     let f = c .before .before .put-flush .ensures in
     record {
-        place = ap (λ (q : Place). waits q 0) (f .place ∙ ap (λ (k : ℕ). afterFlush (a .width) (a .page) (a .p) k) size) ∙ sym (s .moved);
-        page = f .page ∙ ap (λ (r : List ℕ). sets (a .out .now) (a .p .written) r) (sym (s .bytes-are));
-        waits = sym (s .waits)
+      place = ap (λ (q : Place). waits q 0) (f .place ∙ ap (λ (k : ℕ). afterFlush (a .width) (a .page) (a .p) k) size) ∙ sym (s .moved);
+      page = f .page ∙ ap (λ (r : List ℕ). sets (a .out .now) (a .p .written) r) (sym (s .bytes-are));
+      waits = sym (s .waits);
     }
 
--- src/writing.rt:181:8
 is-format-requires : tie.Need-is-format-requires
 is-format-requires c κs = search needs
 
--- src/writing.rt:182:35
 slice-reshare-prefix-put-flush-2 : tie.Need-slice-reshare-prefix-put-flush-2
 slice-reshare-prefix-put-flush-2 c = search needs
 
--- src/writing.rt:182:35
 slice-aggregate-put-flush-2 : tie.Need-slice-aggregate-put-flush-2
 slice-aggregate-put-flush-2 c =
     let a = c .before .before .before .before .before .before .before .args in
     sym (length-take-le (a .n) (a .word .now) (omega arith))
 
--- src/writing.rt:182:13
 put-flush-requires-2 : tie.Need-put-flush-requires-2
 put-flush-requires-2 c κs =
     let a = c .before .before .before .before .before .before .before .args in
@@ -97,7 +82,6 @@ put-flush-requires-2 c κs =
     let n = ap length (s .bytes-are) ∙ length-append (flushBytes (a .width) (a .page) (a .p) cells) (formatBytes (a .width) (a .page) q (a .g)) in
     (record { modest = Moves.modest-more (omega arith) (pre .0 .modest); room = let r = pre .0 .room in omega arith }, omega arith)
 
--- src/writing.rt:183:13
 put-format-requires : tie.Need-put-format-requires
 put-format-requires c κs =
     let a = c .before .before .before .before .before .before .before .before .before .before .before .args in
@@ -110,23 +94,20 @@ put-format-requires c κs =
     let e : c .before .before .before .put-flush2 .result ≡ q = f .place ∙ ap (λ (k : ℕ). afterFlush (a .width) (a .page) (a .p) k) size in
     let n = ap length (s .bytes-are) ∙ length-append (flushBytes (a .width) (a .page) (a .p) cells) (formatBytes (a .width) (a .page) q (a .g)) in
     let w : q .written ≡ a .p .written + length (flushBytes (a .width) (a .page) (a .p) cells) =
-        ap (λ (k : ℕ). afterFlush (a .width) (a .page) (a .p) k .written) (sym size) ∙ Bytes.written-flush (a .width) (a .page) (a .p) cells in
+    ap (λ (k : ℕ). afterFlush (a .width) (a .page) (a .p) k .written) (sym size) ∙ Bytes.written-flush (a .width) (a .page) (a .p) cells in
     let l = ap length (f .page) ∙ length-sets (a .out .now) (a .p .written) (flushBytes (a .width) (a .page) (a .p) cells) in
     rw e
     (record {
-        modest = Moves.modest-more (omega arith) (Gather.modest-flush (a .width) (a .page) (2 ^ 31) (a .n) (a .p) (pre .0 .modest));
-        room = let r = pre .0 .room in omega arith
+      modest = Moves.modest-more (omega arith) (Gather.modest-flush (a .width) (a .page) (2 ^ 31) (a .n) (a .p) (pre .0 .modest));
+      room = let r = pre .0 .room in omega arith;
     })
 
--- src/writing.rt:184:9
 same-length-3 : tie.Need-same-length-3
 same-length-3 c = search needs
 
--- src/writing.rt:184:9
 same-length-4 : tie.Need-same-length-4
 same-length-4 c = search needs
 
--- src/writing.rt:184:9
 returns-2 : tie.Need-returns-2
 returns-2 c =
     let a = c .before .before .before .before .before .before .before .before .before .before .before .before .before .before .args in
@@ -140,37 +121,32 @@ returns-2 c =
     let h = c .before .before .put-format .ensures in
     let e : c .before .before .before .before .before .before .put-flush2 .result ≡ q = f .place ∙ ap (λ (k : ℕ). afterFlush (a .width) (a .page) (a .p) k) size in
     let w : q .written ≡ a .p .written + length (flushBytes (a .width) (a .page) (a .p) cells) =
-        ap (λ (k : ℕ). afterFlush (a .width) (a .page) (a .p) k .written) (sym size) ∙ Bytes.written-flush (a .width) (a .page) (a .p) cells in
+    ap (λ (k : ℕ). afterFlush (a .width) (a .page) (a .p) k .written) (sym size) ∙ Bytes.written-flush (a .width) (a .page) (a .p) cells in
     record {
-        place = ap (λ (r : Place). waits r 0) (h .place ∙ ap (λ (r : Place). afterFormat (a .width) (a .page) r (a .g)) e) ∙ sym (s .moved);
-        page =
-            put-then (a .out .now) m _ (a .p .written) (flushBytes (a .width) (a .page) (a .p) cells) (formatBytes (a .width) (a .page) q (a .g)) (f .page)
-            (h .page ∙ ap (λ (r : Place). sets m (r .written) (formatBytes (a .width) (a .page) r (a .g))) e)
-            w
-            ∙ ap (λ (r : List ℕ). sets (a .out .now) (a .p .written) r) (sym (s .bytes-are));
-        waits = sym (s .waits)
+      place = ap (λ (r : Place). waits r 0) (h .place ∙ ap (λ (r : Place). afterFormat (a .width) (a .page) r (a .g)) e) ∙ sym (s .moved);
+      page =
+          put-then (a .out .now) m _ (a .p .written) (flushBytes (a .width) (a .page) (a .p) cells) (formatBytes (a .width) (a .page) q (a .g)) (f .page)
+          (h .page ∙ ap (λ (r : Place). sets m (r .written) (formatBytes (a .width) (a .page) r (a .g))) e)
+          w
+          ∙ ap (λ (r : List ℕ). sets (a .out .now) (a .p .written) r) (sym (s .bytes-are));
+      waits = sym (s .waits);
     }
 
--- src/writing.rt:186:5
 slice-write-word : tie.Need-slice-write-word
 slice-write-word c = search needs
 
--- src/writing.rt:187:13
 add-m : tie.Need-add-m
 add-m c = search needs
 
--- src/writing.rt:189:34
 slice-reshare-prefix-put-word : tie.Need-slice-reshare-prefix-put-word
 slice-reshare-prefix-put-word c = simp length-set (omega arith)
 
--- src/writing.rt:189:34
 slice-aggregate-put-word : tie.Need-slice-aggregate-put-word
 slice-aggregate-put-word c =
     let a = c .before .before .before .before .before .before .before .before .args in
     let l = length-set (a .word .now) (a .n) (a .g) in
     sym (length-take-le (a .n + 1) (set (a .word .now) (a .n) (a .g)) (omega arith))
 
--- src/writing.rt:189:13
 put-word-requires : tie.Need-put-word-requires
 put-word-requires c κs =
     let a = c .before .before .before .before .before .before .before .before .args in
@@ -183,15 +159,12 @@ put-word-requires c κs =
     rw m
     (record { modest = Moves.modest-more (omega arith) (pre .0 .modest); room = rw (s .bytes-are) at (pre .0 .room) }, omega arith)
 
--- src/writing.rt:190:9
 same-length-5 : tie.Need-same-length-5
 same-length-5 c = search needs
 
--- src/writing.rt:190:9
 same-length-6 : tie.Need-same-length-6
 same-length-6 c = search needs
 
--- src/writing.rt:190:9
 returns-3 : tie.Need-returns-3
 returns-3 c =
     let a = c .before .before .before .before .before .before .before .before .before .before .before .args in
@@ -203,21 +176,19 @@ returns-3 c =
     let l : length (cells ++ a .g ∷ []) ≡ a .n + 1 = length-append cells (a .g ∷ []) ∙ ap (λ (k : ℕ). k + 1) size in
     let f = c .before .before .put-word .ensures in
     record {
-        place =
-            ap (λ (r : Place). waits r 0)
-            (f .place ∙ ap (λ (r : List ℕ). afterWord (a .width) (a .page) (a .p) (length r)) m ∙ ap (λ (k : ℕ). afterWord (a .width) (a .page) (a .p) k) l)
-            ∙ sym (s .moved);
-        page =
-            f .page ∙ ap (λ (r : List ℕ). sets (a .out .now) (a .p .written) (wordBytes (a .width) (a .page) (a .p) r)) m
-            ∙ ap (λ (r : List ℕ). sets (a .out .now) (a .p .written) r) (sym (s .bytes-are));
-        waits = sym (s .waits)
+      place =
+          ap (λ (r : Place). waits r 0)
+          (f .place ∙ ap (λ (r : List ℕ). afterWord (a .width) (a .page) (a .p) (length r)) m ∙ ap (λ (k : ℕ). afterWord (a .width) (a .page) (a .p) k) l)
+          ∙ sym (s .moved);
+      page =
+          f .page ∙ ap (λ (r : List ℕ). sets (a .out .now) (a .p .written) (wordBytes (a .width) (a .page) (a .p) r)) m
+          ∙ ap (λ (r : List ℕ). sets (a .out .now) (a .p .written) r) (sym (s .bytes-are));
+      waits = sym (s .waits);
     }
 
--- src/writing.rt:173:1
 same-length-7 : tie.Need-same-length-7
 same-length-7 c = search needs
 
--- src/writing.rt:173:1
 returns-4 : tie.Need-returns-4
 returns-4 c =
     let a = c .before .before .before .before .before .before .args in
@@ -227,9 +198,9 @@ returns-4 c =
     let s = Steps.step-waits (a .width) (a .page) (a .p) cells (a .n) (a .g) size (c .before .before .before .if1 .left) (sym (c .before .before .is-format .ensures) ∙ c .before .if2 .left) (c .if3 .left) in
     let m = Steps.one-waits-more (a .word .now) (a .n) (a .g) (omega arith) in
     record {
-        place = sym (s .moved);
-        page = ap (λ (r : List ℕ). sets (a .out .now) (a .p .written) r) (sym (s .bytes-are));
-        waits = m ∙ sym (s .waits)
+      place = sym (s .moved);
+      page = ap (λ (r : List ℕ). sets (a .out .now) (a .p .written) r) (sym (s .bytes-are));
+      waits = m ∙ sym (s .waits);
     }
 
 pub put-sign-spec : {M : Type 1} → statement M

@@ -1,3 +1,5 @@
+-- `layout::writing::put_word` meets its contract: on an empty line, joining, or on the next line; the bytes of the line's end and of the cells are one run
+-- after the other.
 use borrow.Author.Needs.{needs}
 use Prim.Native.Nat.{ℕ, suc, _+_, _^_, _≤_, _<_}
 use mathlib.Core.List.{List, [], _∷_, _++_}
@@ -13,18 +15,10 @@ use Rattle.layout.proofs.Bytes as Bytes
 use Rattle.layout.proofs.Sets.{put-then}
 use Rattle.layout.proofs.writing.put_word.Statement.{statement}
 use Rattle.layout.proofs.writing.put_word.Tie as tie
-use Rattle.layout.proofs.writing.put_word.Reads as reads
-use Rattle.layout.proofs.writing.put_word.Lts as lts
-use Rattle.layout.proofs.Place.cells.Reads as cells-reads
-use Rattle.layout.proofs.Place.opening_blanks.Reads as opening-blanks-reads
-use Rattle.layout.proofs.writing.put_cells.Reads as put-cells-reads
-use Rattle.layout.proofs.writing.put_line.Reads as put-line-reads
 
--- src/writing.rt:108:13
 opening-blanks-requires : tie.Need-opening-blanks-requires
 opening-blanks-requires c κs = search needs
 
--- src/writing.rt:110:9
 put-cells-requires : tie.Need-put-cells-requires
 put-cells-requires c κs =
     let a = c .before .before .before .before .before .before .args in
@@ -35,7 +29,6 @@ put-cells-requires c κs =
     let b = ap length (Bytes.word-bytes-start (a .width) (a .page) (a .p) (a .cells .now) (c .before .before .if1 .taken)) ∙ Bytes.length-cells-after o (a .cells .now) in
     rw e (let r : a .p .written + o + n ≤ length (a .out .now) = omega arith in r)
 
--- src/writing.rt:111:9
 cells-requires : tie.Need-cells-requires
 cells-requires c κs =
     let a = c .before .before .before .before .before .before .before .before .before .args in
@@ -45,11 +38,9 @@ cells-requires c κs =
     let o = Moves.opening-at-most (a .width) (a .p) n in
     (Moves.modest-more (omega arith) (pre .0 .modest), omega arith, omega arith)
 
--- src/writing.rt:111:9
 same-length : tie.Need-same-length
 same-length c = search needs
 
--- src/writing.rt:111:9
 returns : tie.Need-returns
 returns c =
     let a = c .before .before .before .before .before .before .before .before .before .before .args in
@@ -57,22 +48,19 @@ returns c =
     let e = c .before .before .before .before .before .opening-blanks .ensures in
     let z = c .before .before .before .before .before .before .if1 .taken in
     record {
-        place = c .cells .ensures ∙ ap (λ (b : ℕ). afterCells (a .p) b n) e ∙ sym (Moves.word-starts (a .width) (a .page) (a .p) n z);
-        page =
-            c .before .before .before .put-cells .ensures .page
-            ∙ ap (λ (b : ℕ). sets (a .out .now) (a .p .written) (cellsAfter b (a .cells .now))) e
-            ∙ ap (λ (r : List ℕ). sets (a .out .now) (a .p .written) r) (sym (Bytes.word-bytes-start (a .width) (a .page) (a .p) (a .cells .now) z))
+      place = c .cells .ensures ∙ ap (λ (b : ℕ). afterCells (a .p) b n) e ∙ sym (Moves.word-starts (a .width) (a .page) (a .p) n z);
+      page =
+          c .before .before .before .put-cells .ensures .page
+          ∙ ap (λ (b : ℕ). sets (a .out .now) (a .p .written) (cellsAfter b (a .cells .now))) e
+          ∙ ap (λ (r : List ℕ). sets (a .out .now) (a .p .written) r) (sym (Bytes.word-bytes-start (a .width) (a .page) (a .p) (a .cells .now) z));
     }
 
--- src/writing.rt:113:8
 add-if2 : tie.Need-add-if2
 add-if2 c = search needs
 
--- src/writing.rt:113:8
 add-if2-2 : tie.Need-add-if2-2
 add-if2-2 c = search needs
 
--- src/writing.rt:115:9
 put-cells-requires-2 : tie.Need-put-cells-requires-2
 put-cells-requires-2 c κs =
     let a = c .before .before .before .before .before .before .before .args in
@@ -83,15 +71,12 @@ put-cells-requires-2 c κs =
     let r : a .p .written + 1 + n ≤ length (a .out .now) = omega arith in
     r
 
--- src/writing.rt:116:9
 cells-requires-2 : tie.Need-cells-requires-2
 cells-requires-2 c κs = search needs
 
--- src/writing.rt:116:9
 same-length-2 : tie.Need-same-length-2
 same-length-2 c = search needs
 
--- src/writing.rt:116:9
 returns-2 : tie.Need-returns-2
 returns-2 c =
     let a = c .before .before .before .before .before .before .before .before .before .before .before .args in
@@ -99,13 +84,12 @@ returns-2 c =
     let held : 0 < a .p .column = omega arith in
     let f = c .before .before .before .before .before .if2 .taken in
     record {
-        place = c .cells2 .ensures ∙ sym (Moves.word-joins (a .width) (a .page) (a .p) n held f);
-        page =
-            c .before .before .before .put-cells2 .ensures .page
-            ∙ ap (λ (r : List ℕ). sets (a .out .now) (a .p .written) r) (sym (Bytes.word-bytes-join (a .width) (a .page) (a .p) (a .cells .now) held f))
+      place = c .cells2 .ensures ∙ sym (Moves.word-joins (a .width) (a .page) (a .p) n held f);
+      page =
+          c .before .before .before .put-cells2 .ensures .page
+          ∙ ap (λ (r : List ℕ). sets (a .out .now) (a .p .written) r) (sym (Bytes.word-bytes-join (a .width) (a .page) (a .p) (a .cells .now) held f));
     }
 
--- src/writing.rt:118:9
 put-line-requires : tie.Need-put-line-requires
 put-line-requires c κs =
     let a = c .before .before .before .before .before .before .before .args in
@@ -118,11 +102,9 @@ put-line-requires c κs =
     let b = ap length (Bytes.word-bytes-overflow (a .width) (a .page) (a .p) (a .cells .now) held wide) ∙ length-append (lineBytes (a .page) (a .p)) (cellsAfter o (a .cells .now)) in
     record { modest = Moves.modest-more (omega arith) (pre .modest); room = let r = pre .room in omega arith }
 
--- src/writing.rt:119:9
 opening-blanks-requires-2 : tie.Need-opening-blanks-requires-2
 opening-blanks-requires-2 c κs = search needs
 
--- src/writing.rt:121:5
 put-cells-requires-3 : tie.Need-put-cells-requires-3
 put-cells-requires-3 c κs =
     let a = c .before .before .before .before .before .before .before .before .before .before .before .before .args in
@@ -134,14 +116,13 @@ put-cells-requires-3 c κs =
     let e = c .before .before .before .before .put-line .ensures in
     let o : ℕ = openingBlanks (a .width) q n in
     let b =
-        ap length (Bytes.word-bytes-overflow (a .width) (a .page) (a .p) (a .cells .now) held wide)
-        ∙ length-append (lineBytes (a .page) (a .p)) (cellsAfter o (a .cells .now)) in
+    ap length (Bytes.word-bytes-overflow (a .width) (a .page) (a .p) (a .cells .now) held wide)
+    ∙ length-append (lineBytes (a .page) (a .p)) (cellsAfter o (a .cells .now)) in
     let m = Bytes.length-cells-after o (a .cells .now) in
     let w = Bytes.written-line (a .page) (a .p) in
     let s = ap length (e .page) ∙ length-sets (a .out .now) (a .p .written) (lineBytes (a .page) (a .p)) in
     rw (c .before .opening-blanks2 .ensures, e .place) (let r : q .written + o + n ≤ length (c .before .before .before .before .put-line .last .0) = omega arith in r)
 
--- src/writing.rt:122:5
 cells-requires-3 : tie.Need-cells-requires-3
 cells-requires-3 c κs =
     let a = c .before .before .before .before .before .before .before .before .before .before .before .before .before .before .before .args in
@@ -152,11 +133,9 @@ cells-requires-3 c κs =
     let o = Moves.opening-at-most (a .width) (c .before .before .before .before .before .before .before .put-line .result) n in
     (rw q (Moves.modest-more (omega arith) (Moves.modest-line (a .page) (2 ^ 32) (a .p) (pre .0 .modest))), omega arith, omega arith)
 
--- src/writing.rt:102:1
 same-length-3 : tie.Need-same-length-3
 same-length-3 c = search needs
 
--- src/writing.rt:102:1
 returns-3 : tie.Need-returns-3
 returns-3 c =
     let a = c .before .before .before .before .before .before .before .before .before .before .before .before .before .before .before .before .args in
@@ -169,16 +148,16 @@ returns-3 c =
     let m : List ℕ = c .before .before .before .before .before .before .before .before .put-line .last .0 in
     let f = c .before .before .before .before .before .opening-blanks2 .ensures ∙ ap (λ (r : Place). openingBlanks (a .width) r n) (e .place) in
     record {
-        place =
-            c .cells3 .ensures ∙ ap (λ (b : ℕ). afterCells (c .before .before .before .before .before .before .before .before .put-line .result) b n) f ∙ ap (λ (r : Place). afterCells r o n) (e .place)
-            ∙ sym (Moves.word-overflows (a .width) (a .page) (a .p) n held wide);
-        page =
-            put-then (a .out .now) m _ (a .p .written) (lineBytes (a .page) (a .p)) (cellsAfter o (a .cells .now)) (e .page)
-            (c .before .before .before .put-cells3 .ensures .page
-            ∙ ap (λ (b : ℕ). sets m (c .before .before .before .before .before .before .before .before .put-line .result .written) (cellsAfter b (a .cells .now))) f
-            ∙ ap (λ (r : Place). sets m (r .written) (cellsAfter o (a .cells .now))) (e .place))
-            (Bytes.written-line (a .page) (a .p))
-            ∙ ap (λ (r : List ℕ). sets (a .out .now) (a .p .written) r) (sym (Bytes.word-bytes-overflow (a .width) (a .page) (a .p) (a .cells .now) held wide))
+      place =
+          c .cells3 .ensures ∙ ap (λ (b : ℕ). afterCells (c .before .before .before .before .before .before .before .before .put-line .result) b n) f ∙ ap (λ (r : Place). afterCells r o n) (e .place)
+          ∙ sym (Moves.word-overflows (a .width) (a .page) (a .p) n held wide);
+      page =
+          put-then (a .out .now) m _ (a .p .written) (lineBytes (a .page) (a .p)) (cellsAfter o (a .cells .now)) (e .page)
+          (c .before .before .before .put-cells3 .ensures .page
+          ∙ ap (λ (b : ℕ). sets m (c .before .before .before .before .before .before .before .before .put-line .result .written) (cellsAfter b (a .cells .now))) f
+          ∙ ap (λ (r : Place). sets m (r .written) (cellsAfter o (a .cells .now))) (e .place))
+          (Bytes.written-line (a .page) (a .p))
+          ∙ ap (λ (r : List ℕ). sets (a .out .now) (a .p .written) r) (sym (Bytes.word-bytes-overflow (a .width) (a .page) (a .p) (a .cells .now) held wide));
     }
 
 pub put-word-spec : {M : Type 1} → statement M

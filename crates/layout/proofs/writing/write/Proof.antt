@@ -1,3 +1,4 @@
+-- `layout::writing::write` meets its contract. The loop's invariant is `Going`: what is written, joined to what the rest still yields, is the whole.
 use Prim.Native.Nat.{ℕ, _+_, _-_, _^_, _≤_, _<_}
 use mathlib.Core.List.{List}
 use mathlib.Core.Path.{_≡_, refl, sym, _∙_, ap, subst}
@@ -10,12 +11,6 @@ use Rattle.layout.specs.Place.{volume}
 use Rattle.layout.proofs.Going.{Going, Sized, going-first, sign-room, going-more, flush-room, page-end-room, whole-written}
 use Rattle.layout.proofs.writing.write.Statement.{statement}
 use Rattle.layout.proofs.writing.write.Tie as tie
-use Rattle.layout.proofs.writing.write.Reads as reads
-use Rattle.layout.proofs.writing.write.Lts as lts
-use Rattle.layout.proofs.Place.first.Reads as first-reads
-use Rattle.layout.proofs.writing.put_flush.Reads as put-flush-reads
-use Rattle.layout.proofs.writing.put_page_end.Reads as put-page-end-reads
-use Rattle.layout.proofs.writing.put_sign.Reads as put-sign-reads
 
 abbrev Inv-loop : tie.InvT-loop
 Inv-loop signs width page out₀ word₀ p₀ n₀ i₀ out word p n i = Going width page signs out₀ out word p n i
@@ -23,11 +18,9 @@ Inv-loop signs width page out₀ word₀ p₀ n₀ i₀ out word p n i = Going w
 abbrev μ-loop : tie.MeasureT-loop
 μ-loop signs width page out₀ word₀ p₀ n₀ i₀ out word p n i = length signs - i
 
--- src/writing.rt:201:9
 first-requires : tie.Need-first-requires Inv-loop μ-loop
 first-requires c κs = search needs
 
--- src/writing.rt:204:5
 loop-holds : tie.Need-loop-holds Inv-loop μ-loop
 loop-holds c =
     let a = c .before .before .before .args in
@@ -35,15 +28,12 @@ loop-holds c =
     let z : Sized (a .width) (a .page) (a .signs .now) (a .out .now) = record { most = pre .0; wide = pre .1; narrow = pre .2; room = pre .3 } in
     rw (c .first .ensures) (going-first z _ refl)
 
--- src/writing.rt:205:34
 slice-aggregate-put-sign : tie.Need-slice-aggregate-put-sign Inv-loop μ-loop
 slice-aggregate-put-sign c = sym (c .before .before .before .loop .inv .buffer)
 
--- src/writing.rt:205:48
 shared-slice-read-put-sign : tie.Need-shared-slice-read-put-sign Inv-loop μ-loop
 shared-slice-read-put-sign c = omega arith
 
--- src/writing.rt:205:13
 put-sign-requires : tie.Need-put-sign-requires Inv-loop μ-loop
 put-sign-requires c κs =
     let a = c .before .before .before .before .before .before .before .before .args in
@@ -53,15 +43,12 @@ put-sign-requires c κs =
     let b = v .buffer in
     (sign-room z v (c .before .before .before .loop-test .taken), v .below, pre .2, omega arith)
 
--- src/writing.rt:208:9
 add-i : tie.Need-add-i Inv-loop μ-loop
 add-i c = omega arith
 
--- src/writing.rt:204:5
 loop-less : tie.Need-loop-less Inv-loop μ-loop
 loop-less c = omega arith
 
--- src/writing.rt:204:5
 loop-again : tie.Need-loop-again Inv-loop μ-loop
 loop-again c =
     let a = c .before .before .before .before .before .before .before .before .before .before .before .before .before .args in
@@ -70,7 +57,6 @@ loop-again c =
     let v = c .before .before .before .before .before .before .before .before .before .loop .inv in
     going-more z v (c .before .before .before .before .before .before .before .before .loop-test .taken) (c .before .before .before .before .put-sign .ensures) (c .before .before .before .before .put-sign .kept .1 .1 .0 ∙ v .buffer)
 
--- src/writing.rt:210:31
 array-share-prefix-word : tie.Need-array-share-prefix-word Inv-loop μ-loop
 array-share-prefix-word c =
     let v = c .before .before .loop .inv in
@@ -78,7 +64,6 @@ array-share-prefix-word c =
     let s = v .below in
     omega arith
 
--- src/writing.rt:210:31
 slice-aggregate-put-flush : tie.Need-slice-aggregate-put-flush Inv-loop μ-loop
 slice-aggregate-put-flush c =
     let v = c .before .before .before .loop .inv in
@@ -86,7 +71,6 @@ slice-aggregate-put-flush c =
     let s = v .below in
     sym (length-take-le (c .before .before .before .loop .n) (c .before .before .before .loop .word) (omega arith))
 
--- src/writing.rt:210:9
 put-flush-requires : tie.Need-put-flush-requires Inv-loop μ-loop
 put-flush-requires c κs =
     let a = c .before .before .before .before .before .before .before .args in
@@ -98,7 +82,6 @@ put-flush-requires c κs =
     let l = length-take-le (c .before .before .before .loop .n) (c .before .before .before .loop .word) (omega arith) in
     (flush-room z v (c .before .before .loop-test .left), omega arith)
 
--- src/writing.rt:211:5
 put-page-end-requires : tie.Need-put-page-end-requires Inv-loop μ-loop
 put-page-end-requires c κs =
     let a = c .before .before .before .before .before .before .before .before .before .before .before .args in
@@ -107,7 +90,6 @@ put-page-end-requires c κs =
     let v = c .before .before .before .before .before .before .before .loop .inv in
     page-end-room z v (c .before .before .before .before .before .before .loop-test .left) (c .before .before .before .put-flush .ensures)
 
--- src/writing.rt:196:1
 same-length : tie.Need-same-length Inv-loop μ-loop
 same-length c =
     let a = c .before .before .before .before .before .before .before .before .before .before .before .before .before .before .args in
@@ -117,7 +99,6 @@ same-length c =
     let w = whole-written z v (c .before .before .before .before .before .before .before .before .before .loop-test .left) (c .before .before .before .before .before .before .put-flush .ensures) (c .before .before .put-page-end .ensures) in
     ap length w ∙ length-sets (a .out .now) 0 (volume (a .width) (a .page) (itemsOf (a .width) (a .signs .now)))
 
--- src/writing.rt:196:1
 returns : tie.Need-returns Inv-loop μ-loop
 returns c =
     let a = c .before .before .before .before .before .before .before .before .before .before .before .before .before .before .args in
