@@ -1,3 +1,4 @@
 pub mod Search
 pub mod Grouping
 pub mod Example
+pub mod Product

@@ -1,5 +1,12 @@
-// A contraction table's stored image: where its five sections lie, and what is wrong with it, if anything.
-// What each type means is said in specs/; this file has the types that the definitions and the calls share.
+// A contraction table's stored image: where its five sections lie, what is wrong with it, if anything, and its records, read where they lie.
+// No function has to be asked with care: each answers for every image and every index. What each answer means is said in specs/.
+
+mod frame;
+mod read;
+
+
+pub use frame::locate;
+pub use read::record_byte;
 
 // One section of the image: the offset of its first byte, the bytes of one record, and how many records it has.
 pub struct Section {

@@ -1,0 +1,32 @@
+use borrow.Author.Needs.{needs}
+use Rattle.table.proofs.frame.section_of.Statement.{statement}
+use Rattle.table.proofs.frame.section_of.Tie as tie
+use Rattle.table.proofs.frame.section_of.Reads as reads
+use Rattle.table.proofs.frame.section_of.Lts as lts
+
+-- src/frame.rt:66:17
+sub-start : tie.Need-sub-start
+sub-start c = search needs
+
+-- src/frame.rt:67:20
+sub-records : tie.Need-sub-records
+sub-records c = search needs
+
+-- src/frame.rt:67:19
+div-records : tie.Need-div-records
+div-records c = search needs
+
+-- src/frame.rt:69:16
+cast-t9 : tie.Need-cast-t9
+cast-t9 c = search needs
+
+-- src/frame.rt:71:18
+cast-t10 : tie.Need-cast-t10
+cast-t10 c = ?
+
+-- src/frame.rt:62:1
+returns : tie.Need-returns
+returns c = search needs
+
+pub section-of-spec : {M : Type 1} → statement M
+section-of-spec = tie.close (tie.spec sub-start sub-records div-records cast-t9 cast-t10 returns)

@@ -1,0 +1,60 @@
+use borrow.Author.Needs.{needs}
+use Rattle.table.proofs.frame.trailer_right.Statement.{statement}
+use Rattle.table.proofs.frame.trailer_right.Tie as tie
+use Rattle.table.proofs.frame.trailer_right.Reads as reads
+use Rattle.table.proofs.frame.trailer_right.Lts as lts
+
+-- src/frame.rt:43:14
+sub-at : tie.Need-sub-at
+sub-at c = search needs
+
+-- src/frame.rt:44:25
+add-classes : tie.Need-add-classes
+add-classes c = search needs
+
+-- src/frame.rt:44:19
+shared-slice-read-classes : tie.Need-shared-slice-read-classes
+shared-slice-read-classes c = search needs
+
+-- src/frame.rt:45:12
+add-result : tie.Need-add-result
+add-result c = search needs
+
+-- src/frame.rt:45:6
+shared-slice-read-result : tie.Need-shared-slice-read-result
+shared-slice-read-result c = search needs
+
+-- src/frame.rt:45:37
+add-result-2 : tie.Need-add-result-2
+add-result-2 c = search needs
+
+-- src/frame.rt:45:31
+shared-slice-read-result-2 : tie.Need-shared-slice-read-result-2
+shared-slice-read-result-2 c = search needs
+
+-- src/frame.rt:45:99
+add-result-3 : tie.Need-add-result-3
+add-result-3 c = search needs
+
+-- src/frame.rt:45:93
+shared-slice-read-result-3 : tie.Need-shared-slice-read-result-3
+shared-slice-read-result-3 c = search needs
+
+-- src/frame.rt:39:1
+returns : tie.Need-returns
+returns c = ?
+
+pub trailer-right-spec : {M : Type 1} → statement M
+trailer-right-spec =
+    tie.close
+    (tie.spec
+    sub-at
+    add-classes
+    shared-slice-read-classes
+    add-result
+    shared-slice-read-result
+    add-result-2
+    shared-slice-read-result-2
+    add-result-3
+    shared-slice-read-result-3
+    returns)
