@@ -1,4 +1,10 @@
 pub mod Search
+pub mod Lists
+pub mod Tests
+pub mod Frame
+pub mod RightRecords
+pub mod FirstWrong
 pub mod Grouping
+pub mod Refusals
 pub mod Example
 pub mod Product

@@ -6,5 +6,6 @@ pub mod Records
 pub mod Table
 pub mod Grouping
 pub mod Verdict
+pub mod Refusals
 pub mod Example
 pub mod Computing

@@ -5,3 +5,9 @@ pub mod Decide
 pub mod Choose
 pub mod Pieces
 pub mod Computing
+pub mod Refusals
+pub mod Signs
+pub mod Sound
+pub mod Admissible
+pub mod Chosen
+pub mod Moved

@@ -1,0 +1,138 @@
+-- The test of the frame passes just where the frame is right in the paper's words. The idea: a record has at least one byte, so where a section holds
+-- whole records their number is the section's length divided by the size of one, which is what the test takes for it.
+use Prim.Native.Nat.{ℕ, zero, suc, _+_, _-_, _*_, _/_, _≤_, _<_}
+use mathlib.Core.Bool.{true}
+use mathlib.Core.List.{List}
+use mathlib.Core.Logic.{_↔_, Iff·trans}
+use mathlib.Core.Path.{_≡_, refl, sym, _∙_}
+use native.Mathlib.Nat.{div-eq-of-eq-mul-right}
+use native.Mathlib.Omega.{arith}
+use lib.Dec.{leb}
+use lib.ListN.{length}
+use Rattle.table.specs.Numbers.{
+  firstMarkByte,
+  secondMarkByte,
+  firstMark,
+  secondMark,
+  leastClasses,
+  mostClasses,
+  mostVariables,
+  leastLetters,
+  mostLetters,
+  letterSize,
+  entrySize,
+  leastEntries,
+  mostEntries,
+  contextSize,
+  leastContexts,
+  mostContexts,
+  leastColumns,
+  mostColumns,
+}
+use Rattle.table.specs.Sections.{
+  byteAt,
+  trailerAt,
+  distance,
+  classesIn,
+  variablesIn,
+  sectionAt,
+  lastSection,
+  sectionsIn,
+  trailerRight,
+  distancesRight,
+  wholeRecords,
+  lengthsRight,
+  frameRight,
+}
+use Rattle.table.specs.Refusals.{Between, WholeRecords, FrameRight}
+use Rattle.table.specs.declared.Section.{Section}
+use Rattle.table.proofs.Tests.{Tells, tells-and, tells-and-then, tells-le, tells-eq, tells-within}
+
+tells-whole : (s : Section) (bytes least most : ℕ) → 0 < s .size → s .records ≡ bytes / s .size
+    → Tells (wholeRecords s bytes least most) (WholeRecords (s .size) bytes least most)
+unfolding wholeRecords
+tells-whole s bytes least most filled counted =
+    Iff·trans (tells-and (tells-eq (s .size * s .records) bytes) (tells-within least most (s .records))) (
+      λ h. record { number = s .records; whole = h .0; allowed = h .1 },
+      λ w.
+          let e : s .records ≡ w .number = counted ∙ div-eq-of-eq-mul-right filled (sym (w .whole)) in
+          (rw e (w .whole), rw e (w .allowed)),
+    )
+
+module _ (image : List ℕ) where
+  tells-trailer :
+      Tells (trailerRight image)
+      ((((byteAt image (trailerAt image + firstMarkByte) ≡ firstMark) × (byteAt image (trailerAt image + secondMarkByte) ≡ secondMark))
+      × Between leastClasses mostClasses (classesIn image))
+      × (variablesIn image ≤ mostVariables))
+  unfolding trailerRight
+  tells-trailer =
+      tells-and (tells-and (tells-and (tells-eq _ _) (tells-eq _ _)) (tells-within _ _ (classesIn image))) (tells-le (variablesIn image) _)
+
+  abbrev NeverRise : Type 0
+  NeverRise = (k : ℕ) → k < 4 → distance image (k + 1) ≤ distance image k
+
+  tells-distances : Tells (distancesRight image) ((distance image 0 ≡ trailerAt image) × NeverRise)
+  unfolding distancesRight
+  tells-distances =
+      Iff·trans
+      (tells-and (tells-and (tells-and (tells-and (tells-eq _ _) (falls 0)) (falls 1)) (falls 2)) (falls 3)) (
+        λ h. (h .0 .0 .0 .0, each (h .0 .0 .0 .1) (h .0 .0 .1) (h .0 .1) (h .1)),
+        λ h. ((((h .0, h .1 0 (omega arith)), h .1 1 (omega arith)), h .1 2 (omega arith)), h .1 3 (omega arith)),
+      )
+    where
+      falls : (k : ℕ) → Tells (leb (distance image (k + 1)) (distance image k)) (distance image (k + 1) ≤ distance image k)
+      falls k = tells-le (distance image (k + 1)) (distance image k)
+
+      each : distance image 1 ≤ distance image 0
+          → distance image 2 ≤ distance image 1 → distance image 3 ≤ distance image 2 → distance image 4 ≤ distance image 3 → NeverRise
+      each a b c d zero l = a
+      each a b c d (suc zero) l = b
+      each a b c d (suc (suc zero)) l = c
+      each a b c d (suc (suc (suc zero))) l = d
+      each a b c d (suc (suc (suc (suc k)))) l = absurd (omega arith)
+
+  tells-lengths : 0 < classesIn image
+      → Tells (lengthsRight image (sectionsIn image))
+      ((((WholeRecords letterSize (distance image 0 - distance image 1) leastLetters mostLetters
+      × WholeRecords entrySize (distance image 1 - distance image 2) leastEntries mostEntries)
+      × WholeRecords contextSize (distance image 2 - distance image 3) leastContexts mostContexts)
+      × WholeRecords (classesIn image) (distance image 3 - distance image 4) (variablesIn image) (variablesIn image))
+      × WholeRecords (classesIn image + variablesIn image) (distance image 4) leastColumns mostColumns)
+  unfolding lengthsRight sectionsIn sectionAt lastSection
+  tells-lengths filled =
+      tells-and
+      (tells-and
+      (tells-and
+      (tells-and (tells-whole (sectionsIn image .alphabet) _ _ _ (omega arith) refl)
+      (tells-whole (sectionsIn image .contractions) _ _ _ (omega arith) refl))
+      (tells-whole (sectionsIn image .contexts) _ _ _ (omega arith) refl))
+      (tells-whole (sectionsIn image .transitions) _ _ _ (omega arith) refl))
+      (tells-whole (sectionsIn image .decisions) _ _ _ (omega arith) refl)
+
+  pub frame-right : (frameRight image ≡ true) ↔ FrameRight image
+  unfolding frameRight trailerAt
+  frame-right =
+      Iff·trans
+      (tells-and-then (tells-and (tells-and (tells-le _ (length image)) tells-trailer) tells-distances)
+      (λ h. tells-lengths (omega arith))) (
+        λ h.
+            record {
+              trailer-there = h .0 .0 .0;
+              first-mark = h .0 .0 .1 .0 .0 .0;
+              second-mark = h .0 .0 .1 .0 .0 .1;
+              classes-right = h .0 .0 .1 .0 .1;
+              variables-right = h .0 .0 .1 .1;
+              first-distance = h .0 .1 .0;
+              never-rise = h .0 .1 .1;
+              alphabet-whole = h .1 .0 .0 .0 .0;
+              contractions-whole = h .1 .0 .0 .0 .1;
+              contexts-whole = h .1 .0 .0 .1;
+              transitions-whole = h .1 .0 .1;
+              decisions-whole = h .1 .1;
+            },
+        λ f. (
+          ((f .trailer-there, (((f .first-mark, f .second-mark), f .classes-right), f .variables-right)), (f .first-distance, f .never-rise)),
+          ((((f .alphabet-whole, f .contractions-whole), f .contexts-whole), f .transitions-whole), f .decisions-whole),
+        ),
+      )
