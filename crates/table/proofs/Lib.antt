@@ -8,3 +8,4 @@ pub mod Grouping
 pub mod Refusals
 pub mod Example
 pub mod Product
+pub mod Distances

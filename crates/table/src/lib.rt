@@ -1,11 +1,11 @@
 // A contraction table's stored image: where its five sections lie, what is wrong with it, if anything, and its records, read where they lie.
 // No function has to be asked with care: each answers for every image and every index. What each answer means is said in specs/.
 
-mod frame;
+mod framing;
 mod read;
 
 
-pub use frame::locate;
+pub use framing::locate;
 pub use read::record_byte;
 
 // One section of the image: the offset of its first byte, the bytes of one record, and how many records it has.

@@ -1,9 +1,10 @@
 use borrow.Author.Needs.{needs}
-use Rattle.table.proofs.frame.distance_of.Statement.{statement}
-use Rattle.table.proofs.frame.distance_of.Tie as tie
-use Rattle.table.proofs.frame.distance_of.Reads as reads
-use Rattle.table.proofs.frame.distance_of.Lts as lts
-use Rattle.table.proofs.frame.number_at.Reads as number-at-reads
+use Rattle.table.specs.Sections.{distance, trailerAt}
+use Rattle.table.proofs.framing.distance_of.Statement.{statement}
+use Rattle.table.proofs.framing.distance_of.Tie as tie
+use Rattle.table.proofs.framing.distance_of.Reads as reads
+use Rattle.table.proofs.framing.distance_of.Lts as lts
+use Rattle.table.proofs.framing.number_at.Reads as number-at-reads
 
 -- src/frame.rt:35:22
 sub-number-at : tie.Need-sub-number-at
@@ -23,7 +24,8 @@ number-at-requires c κs = search needs
 
 -- src/frame.rt:31:1
 returns : tie.Need-returns
-returns c = ?
+unfolding distance trailerAt
+returns c = c .number-at .ensures
 
 pub distance-of-spec : {M : Type 1} → statement M
 distance-of-spec =

@@ -1,9 +1,11 @@
 use borrow.Author.Needs.{needs}
-use Rattle.table.proofs.frame.number_at.Statement.{statement}
-use Rattle.table.proofs.frame.number_at.Tie as tie
-use Rattle.table.proofs.frame.number_at.Reads as reads
-use Rattle.table.proofs.frame.number_at.Lts as lts
-use Rattle.table.proofs.frame.wide.Reads as wide-reads
+use native.Mathlib.Omega.{arith}
+use Rattle.table.specs.Sections.{numberAt, byteAt}
+use Rattle.table.proofs.framing.number_at.Statement.{statement}
+use Rattle.table.proofs.framing.number_at.Tie as tie
+use Rattle.table.proofs.framing.number_at.Reads as reads
+use Rattle.table.proofs.framing.number_at.Lts as lts
+use Rattle.table.proofs.framing.wide.Reads as wide-reads
 
 -- src/frame.rt:27:10
 shared-slice-read-wide : tie.Need-shared-slice-read-wide
@@ -35,7 +37,8 @@ add-result c = search needs
 
 -- src/frame.rt:23:1
 returns : tie.Need-returns
-returns c = ?
+unfolding numberAt byteAt
+returns c = (omega arith, omega arith)
 
 pub number-at-spec : {M : Type 1} → statement M
 number-at-spec =

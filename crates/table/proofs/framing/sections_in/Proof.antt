@@ -1,10 +1,10 @@
 use borrow.Author.Needs.{needs}
-use Rattle.table.proofs.frame.sections_in.Statement.{statement}
-use Rattle.table.proofs.frame.sections_in.Tie as tie
-use Rattle.table.proofs.frame.sections_in.Reads as reads
-use Rattle.table.proofs.frame.sections_in.Lts as lts
-use Rattle.table.proofs.frame.distance_of.Reads as distance-of-reads
-use Rattle.table.proofs.frame.section_of.Reads as section-of-reads
+use Rattle.table.proofs.framing.sections_in.Statement.{statement}
+use Rattle.table.proofs.framing.sections_in.Tie as tie
+use Rattle.table.proofs.framing.sections_in.Reads as reads
+use Rattle.table.proofs.framing.sections_in.Lts as lts
+use Rattle.table.proofs.framing.distance_of.Reads as distance-of-reads
+use Rattle.table.proofs.framing.section_of.Reads as section-of-reads
 
 -- src/frame.rt:80:14
 sub-at : tie.Need-sub-at

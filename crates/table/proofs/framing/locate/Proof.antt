@@ -1,13 +1,13 @@
 use borrow.Author.Needs.{needs}
-use Rattle.table.proofs.frame.locate.Statement.{statement}
-use Rattle.table.proofs.frame.locate.Tie as tie
-use Rattle.table.proofs.frame.locate.Reads as reads
-use Rattle.table.proofs.frame.locate.Lts as lts
-use Rattle.table.proofs.frame.distances_right.Reads as distances-right-reads
-use Rattle.table.proofs.frame.lengths_right.Reads as lengths-right-reads
-use Rattle.table.proofs.frame.no_sections.Reads as no-sections-reads
-use Rattle.table.proofs.frame.sections_in.Reads as sections-in-reads
-use Rattle.table.proofs.frame.trailer_right.Reads as trailer-right-reads
+use Rattle.table.proofs.framing.locate.Statement.{statement}
+use Rattle.table.proofs.framing.locate.Tie as tie
+use Rattle.table.proofs.framing.locate.Reads as reads
+use Rattle.table.proofs.framing.locate.Lts as lts
+use Rattle.table.proofs.framing.distances_right.Reads as distances-right-reads
+use Rattle.table.proofs.framing.lengths_right.Reads as lengths-right-reads
+use Rattle.table.proofs.framing.no_sections.Reads as no-sections-reads
+use Rattle.table.proofs.framing.sections_in.Reads as sections-in-reads
+use Rattle.table.proofs.framing.trailer_right.Reads as trailer-right-reads
 
 -- src/frame.rt:156:9
 no-sections-requires : tie.Need-no-sections-requires

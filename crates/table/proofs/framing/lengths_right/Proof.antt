@@ -1,10 +1,10 @@
 use borrow.Author.Needs.{needs}
-use Rattle.table.proofs.frame.lengths_right.Statement.{statement}
-use Rattle.table.proofs.frame.lengths_right.Tie as tie
-use Rattle.table.proofs.frame.lengths_right.Reads as reads
-use Rattle.table.proofs.frame.lengths_right.Lts as lts
-use Rattle.table.proofs.frame.distance_of.Reads as distance-of-reads
-use Rattle.table.proofs.frame.whole_records.Reads as whole-records-reads
+use Rattle.table.proofs.framing.lengths_right.Statement.{statement}
+use Rattle.table.proofs.framing.lengths_right.Tie as tie
+use Rattle.table.proofs.framing.lengths_right.Reads as reads
+use Rattle.table.proofs.framing.lengths_right.Lts as lts
+use Rattle.table.proofs.framing.distance_of.Reads as distance-of-reads
+use Rattle.table.proofs.framing.whole_records.Reads as whole-records-reads
 
 -- src/frame.rt:113:9
 distance-of-requires : tie.Need-distance-of-requires

@@ -1,8 +1,10 @@
 use borrow.Author.Needs.{needs}
-use Rattle.table.proofs.frame.trailer_right.Statement.{statement}
-use Rattle.table.proofs.frame.trailer_right.Tie as tie
-use Rattle.table.proofs.frame.trailer_right.Reads as reads
-use Rattle.table.proofs.frame.trailer_right.Lts as lts
+use mathlib.Core.Path.{_≡_, refl, sym, _∙_, ap}
+use Rattle.table.specs.Sections.{trailerRight, byteAt, trailerAt, classesIn, variablesIn}
+use Rattle.table.proofs.framing.trailer_right.Statement.{statement}
+use Rattle.table.proofs.framing.trailer_right.Tie as tie
+use Rattle.table.proofs.framing.trailer_right.Reads as reads
+use Rattle.table.proofs.framing.trailer_right.Lts as lts
 
 -- src/frame.rt:43:14
 sub-at : tie.Need-sub-at
@@ -42,7 +44,8 @@ shared-slice-read-result-3 c = search needs
 
 -- src/frame.rt:39:1
 returns : tie.Need-returns
-returns c = ?
+unfolding trailerRight byteAt trailerAt classesIn variablesIn
+returns c = refl
 
 pub trailer-right-spec : {M : Type 1} → statement M
 trailer-right-spec =

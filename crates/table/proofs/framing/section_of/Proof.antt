@@ -1,8 +1,11 @@
 use borrow.Author.Needs.{needs}
-use Rattle.table.proofs.frame.section_of.Statement.{statement}
-use Rattle.table.proofs.frame.section_of.Tie as tie
-use Rattle.table.proofs.frame.section_of.Reads as reads
-use Rattle.table.proofs.frame.section_of.Lts as lts
+use native.Mathlib.Omega.{arith}
+use Prim.Native.Nat.{_-_}
+use native.Mathlib.Nat.{div-le-self}
+use Rattle.table.proofs.framing.section_of.Statement.{statement}
+use Rattle.table.proofs.framing.section_of.Tie as tie
+use Rattle.table.proofs.framing.section_of.Reads as reads
+use Rattle.table.proofs.framing.section_of.Lts as lts
 
 -- src/frame.rt:66:17
 sub-start : tie.Need-sub-start
@@ -22,7 +25,7 @@ cast-t9 c = search needs
 
 -- src/frame.rt:71:18
 cast-t10 : tie.Need-cast-t10
-cast-t10 c = ?
+cast-t10 c = let h = div-le-self (c .args .d - c .args .e) (c .args .size) in record { fits = omega arith }
 
 -- src/frame.rt:62:1
 returns : tie.Need-returns

@@ -1,9 +1,10 @@
 use borrow.Author.Needs.{needs}
-use Rattle.table.proofs.frame.distances_right.Statement.{statement}
-use Rattle.table.proofs.frame.distances_right.Tie as tie
-use Rattle.table.proofs.frame.distances_right.Reads as reads
-use Rattle.table.proofs.frame.distances_right.Lts as lts
-use Rattle.table.proofs.frame.distance_of.Reads as distance-of-reads
+use Rattle.table.specs.Sections.{distancesRight, trailerAt}
+use Rattle.table.proofs.framing.distances_right.Statement.{statement}
+use Rattle.table.proofs.framing.distances_right.Tie as tie
+use Rattle.table.proofs.framing.distances_right.Reads as reads
+use Rattle.table.proofs.framing.distances_right.Lts as lts
+use Rattle.table.proofs.framing.distance_of.Reads as distance-of-reads
 
 -- src/frame.rt:53:9
 distance-of-requires : tie.Need-distance-of-requires
@@ -31,7 +32,10 @@ sub-result c = search needs
 
 -- src/frame.rt:49:1
 returns : tie.Need-returns
-returns c = ?
+unfolding distancesRight trailerAt
+returns c =
+    rw
+    (c .before .before .before .before .distance-of .ensures .0, c .before .before .before .distance-of2 .ensures .0, c .before .before .distance-of3 .ensures .0, c .before .distance-of4 .ensures .0, c .distance-of5 .ensures .0)
 
 pub distances-right-spec : {M : Type 1} → statement M
 distances-right-spec =
