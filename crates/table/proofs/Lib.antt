@@ -8,4 +8,5 @@ pub mod Grouping
 pub mod Refusals
 pub mod Example
 pub mod Product
+pub mod Promises
 pub mod Distances

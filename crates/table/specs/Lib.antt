@@ -9,3 +9,4 @@ pub mod Verdict
 pub mod Refusals
 pub mod Example
 pub mod Computing
+pub mod Promises

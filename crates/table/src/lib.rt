@@ -4,9 +4,8 @@
 mod framing;
 mod read;
 
-
-pub use framing::locate;
 pub use read::record_byte;
+pub use read::record_part;
 
 // One section of the image: the offset of its first byte, the bytes of one record, and how many records it has.
 pub struct Section {

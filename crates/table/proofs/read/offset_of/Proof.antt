@@ -1,3 +1,4 @@
+-- `table::read::offset_of` meets its contract: the product of two numbers of sixteen bits fits, and so does the sum.
 use borrow.Author.Needs.{needs}
 use mathlib.Core.Path.{refl}
 use native.Mathlib.Omega.{arith}
@@ -5,32 +6,25 @@ use Rattle.table.specs.Sections.{offset}
 use Rattle.table.proofs.Product.{product-fits}
 use Rattle.table.proofs.read.offset_of.Statement.{statement}
 use Rattle.table.proofs.read.offset_of.Tie as tie
-use Rattle.table.proofs.read.offset_of.Reads as reads
-use Rattle.table.proofs.read.offset_of.Lts as lts
 
--- src/lib.rt:44:17
 cast-start : tie.Need-cast-start
 cast-start c = search needs
 
--- src/lib.rt:45:16
 cast-size : tie.Need-cast-size
 cast-size c = search needs
 
--- src/lib.rt:46:13
 mul-result : tie.Need-mul-result
 mul-result c =
     let a = c .before .before .args in
     let h = product-fits (a .s .size) (a .k) (search needs) (search needs) in
     record { fits = omega arith }
 
--- src/lib.rt:46:5
 add-result : tie.Need-add-result
 add-result c =
     let a = c .before .before .args in
     let h = product-fits (a .s .size) (a .k) (search needs) (search needs) in
     record { fits = omega arith }
 
--- src/lib.rt:41:1
 returns : tie.Need-returns
 unfolding offset
 returns c =

@@ -1,0 +1,12 @@
+-- Any two answers that a promise allows are equal.
+use Prim.Native.Nat.{ℕ}
+use mathlib.Core.List.{List}
+use mathlib.Core.Path.{_≡_, sym, _∙_}
+use Rattle.table.specs.Promises.{RecordByte, RecordPart}
+use Rattle.table.specs.declared.Section.{Section}
+
+pub record-byte-determined : {image : List ℕ} {s : Section} {k j a b : ℕ} → RecordByte image s k j a → RecordByte image s k j b → a ≡ b
+record-byte-determined p q = p .is ∙ sym (q .is)
+
+pub record-part-determined : {image : List ℕ} {s : Section} {k j n : ℕ} {a b : List ℕ} → RecordPart image s k j n a → RecordPart image s k j n b → a ≡ b
+record-part-determined p q = p .is ∙ sym (q .is)

@@ -1,0 +1,22 @@
+-- What each public function of this crate promises, as a relation between what it is given and what it answers. proofs/Promises.antt shows that any two
+-- answers that a promise allows are equal.
+use Prim.Native.Nat.{ℕ, _+_}
+use mathlib.Core.Bool.{cond}
+use mathlib.Core.List.{List, []}
+use mathlib.Core.Path.{_≡_}
+use lib.Dec.{leb}
+use lib.ListN.{length}
+use Rattle.table.specs.Sections.{offset, recordByte, recordPart}
+use Rattle.table.specs.declared.Section.{Section}
+
+-- `record_byte`: the byte, or 0 outside the image
+pub record RecordByte (image : List ℕ) (s : Section) (k j answer : ℕ) : Type 0 where
+  pub is : answer ≡ recordByte image s k j
+
+-- the part where all of it lies within the image, and nothing where it doesn't
+unfoldable pub partWithin : List ℕ → Section → ℕ → ℕ → ℕ → List ℕ
+partWithin image s k j n = cond (leb (offset s k + j + n) (length image)) (recordPart image s k j n) []
+
+-- `record_part`
+pub record RecordPart (image : List ℕ) (s : Section) (k j n : ℕ) (answer : List ℕ) : Type 0 where
+  pub is : answer ≡ partWithin image s k j n
