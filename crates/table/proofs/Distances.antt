@@ -2,7 +2,7 @@
 use Prim.Native.Nat.{ℕ, _≤_}
 use mathlib.Core.Bool.{Bool, true, false, _&&_}
 use mathlib.Core.List.{List}
-use mathlib.Core.Path.{_≡_}
+use mathlib.Core.Path.{_≡_, refl}
 use lib.Dec.{leb, eqb}
 use native.Mathlib.Omega.{arith}
 use borrow.Author.Tests.{leb-true, eqb-true}
@@ -10,7 +10,7 @@ use Rattle.table.specs.Numbers.{leastClasses, mostClasses, mostVariables
 use Rattle.table.specs.Sections.{byteAt, trailerAt, classesIn, variablesIn, distance, trailerRight, distancesRight}
 
 and-left : (a b : Bool) → (a && b) ≡ true → a ≡ true
-and-left true b e = e
+and-left true b e = refl
 and-left false b e = e
 
 and-right : (a b : Bool) → (a && b) ≡ true → b ≡ true

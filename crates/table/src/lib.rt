@@ -4,6 +4,7 @@
 mod framing;
 mod read;
 
+pub use framing::locate;
 pub use read::record_byte;
 pub use read::record_part;
 
