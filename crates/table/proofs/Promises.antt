@@ -2,8 +2,12 @@
 use Prim.Native.Nat.{ℕ}
 use mathlib.Core.List.{List}
 use mathlib.Core.Path.{_≡_, sym, _∙_}
-use Rattle.table.specs.Promises.{RecordByte, RecordPart}
+use Rattle.table.specs.Promises.{Located, RecordByte, RecordPart}
 use Rattle.table.specs.declared.Section.{Section}
+use Rattle.table.specs.declared.Sections.{Sections}
+
+pub locate-determined : {image : List ℕ} {a b : Sections} → Located image a → Located image b → a ≡ b
+locate-determined p q = p .is ∙ sym (q .is)
 
 pub record-byte-determined : {image : List ℕ} {s : Section} {k j a b : ℕ} → RecordByte image s k j a → RecordByte image s k j b → a ≡ b
 record-byte-determined p q = p .is ∙ sym (q .is)

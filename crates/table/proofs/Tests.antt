@@ -43,6 +43,9 @@ tells-and-then {a = false} p q = (λ e. absurd (false≢true e), λ h. absurd (f
 pub tells-and : {a b : Bool} {P Q : Type 0} → Tells a P → Tells b Q → Tells (a && b) (P × Q)
 tells-and p q = tells-and-then p (λ _. q)
 
+pub both : {a b : Bool} → (a && b) ≡ true → (a ≡ true) × (b ≡ true)
+both = tells-and (λ e. e, λ e. e) (λ e. e, λ e. e) .0
+
 pub tells-or : {a b : Bool} {P Q : Type 0} → Tells a P → Tells b Q → Tells (a || b) (P ⊎ Q)
 tells-or {a = true} p q = (λ e. inl (p .0 refl), λ _. refl)
 tells-or {a = false} p q = (λ e. inr (q .0 e), ⊎-elim (λ h. absurd (false≢true (p .1 h))) (q .1))

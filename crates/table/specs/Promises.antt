@@ -6,8 +6,13 @@ use mathlib.Core.List.{List, []}
 use mathlib.Core.Path.{_≡_}
 use lib.Dec.{leb}
 use lib.ListN.{length}
-use Rattle.table.specs.Sections.{offset, recordByte, recordPart}
+use Rattle.table.specs.Sections.{sectionsOf, offset, recordByte, recordPart}
 use Rattle.table.specs.declared.Section.{Section}
+use Rattle.table.specs.declared.Sections.{Sections}
+
+-- `locate`: the sections, or none where the frame is wrong
+pub record Located (image : List ℕ) (answer : Sections) : Type 0 where
+  pub is : answer ≡ sectionsOf image
 
 -- `record_byte`: the byte, or 0 outside the image
 pub record RecordByte (image : List ℕ) (s : Section) (k j answer : ℕ) : Type 0 where

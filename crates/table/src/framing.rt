@@ -5,8 +5,8 @@ ghost use mathlib.Core.Path.{_≡_};
 ghost use mathlib.Core.Bool.{true};
 ghost use Prim.Native.Nat.{ℕ, _+_, _-_, _/_, _<_, _≤_};
 ghost use lib.ListN.{length};
-ghost use Rattle.table.specs.Sections.{numberAt, distance, trailerAt, classesIn, variablesIn, trailerRight, distancesRight, wholeRecords, lengthsRight, sectionsIn, noSections, sectionsOf};
-
+ghost use Rattle.table.specs.Sections.{numberAt, distance, trailerAt, classesIn, variablesIn, trailerRight, distancesRight, wholeRecords, lengthsRight, sectionsIn, noSections};
+ghost use Rattle.table.specs.Promises.{Located};
 use crate::Section;
 use crate::Sections;
 
@@ -42,7 +42,10 @@ fn trailer_right(image: &[u8]) -> bool
 {
     let at = image.len() - TRAILER;
     let classes = image[at + 10];
-    (image[at + 12] == 66) & (image[at + 13] == 51) & ((1 <= classes) & (classes <= 40)) & (image[at + 11] <= 15)
+    (image[at + 12] == 66)
+        & (image[at + 13] == 51)
+        & ((1 <= classes) & (classes <= 40))
+        & (image[at + 11] <= 15)
 }
 
 // The first distance is the length of all five sections, and distances never rise.
@@ -150,7 +153,7 @@ fn no_sections() -> Sections
 
 // The sections of any image: none where its frame is wrong.
 pub fn locate(image: &[u8]) -> Sections
-    ensures { λ r. ⌜ r ≡ sectionsOf (now (image .entry)) ⌝ }
+    ensures { λ r. ⌜ Located (now (image .entry)) r ⌝ }
 {
     if image.len() < TRAILER {
         return no_sections();
@@ -159,5 +162,9 @@ pub fn locate(image: &[u8]) -> Sections
         return no_sections();
     }
     let s = sections_in(image);
-    if lengths_right(image, s) { s } else { no_sections() }
+    if lengths_right(image, s) {
+        s
+    } else {
+        no_sections()
+    }
 }

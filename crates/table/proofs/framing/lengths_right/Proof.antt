@@ -1,70 +1,72 @@
+-- `table::framing::lengths_right` meets its contract: right distances never rise, so each section's bytes are a difference that doesn't wrap.
 use borrow.Author.Needs.{needs}
+use native.Mathlib.Omega.{arith}
+use Rattle.table.specs.Sections.{lengthsRight}
+use Rattle.table.proofs.Distances.{Falling, distances-fall}
 use Rattle.table.proofs.framing.lengths_right.Statement.{statement}
 use Rattle.table.proofs.framing.lengths_right.Tie as tie
-use Rattle.table.proofs.framing.lengths_right.Reads as reads
-use Rattle.table.proofs.framing.lengths_right.Lts as lts
-use Rattle.table.proofs.framing.distance_of.Reads as distance-of-reads
-use Rattle.table.proofs.framing.whole_records.Reads as whole-records-reads
 
--- src/frame.rt:113:9
 distance-of-requires : tie.Need-distance-of-requires
 distance-of-requires c κs = search needs
 
--- src/frame.rt:114:9
 distance-of-requires-2 : tie.Need-distance-of-requires-2
 distance-of-requires-2 c κs = search needs
 
--- src/frame.rt:115:9
 distance-of-requires-3 : tie.Need-distance-of-requires-3
 distance-of-requires-3 c κs = search needs
 
--- src/frame.rt:116:9
 distance-of-requires-4 : tie.Need-distance-of-requires-4
 distance-of-requires-4 c κs = search needs
 
--- src/frame.rt:117:9
 distance-of-requires-5 : tie.Need-distance-of-requires-5
 distance-of-requires-5 c κs = search needs
 
--- src/frame.rt:124:29
-sub-whole-records : tie.Need-sub-whole-records
-sub-whole-records c = ?
+fall : (c : tie.After-distance-of5) → Falling (c .before .before .before .before .before .before .args .image .now)
+fall c = let start = c .before .before .before .before .before .before in distances-fall (start .args .image .now) (start .pre .1)
 
--- src/frame.rt:124:5
+sub-whole-records : tie.Need-sub-whole-records
+sub-whole-records c = let f = fall (c .before .before .before .before .before) in omega arith
+
 whole-records-requires : tie.Need-whole-records-requires
 whole-records-requires c κs = search needs
 
--- src/frame.rt:125:39
 sub-whole-records-2 : tie.Need-sub-whole-records-2
-sub-whole-records-2 c = ?
+sub-whole-records-2 c = let f = fall (c .before .before .before .before .before .before) in omega arith
 
--- src/frame.rt:125:11
 whole-records-requires-2 : tie.Need-whole-records-requires-2
 whole-records-requires-2 c κs = search needs
 
--- src/frame.rt:126:35
 sub-whole-records-3 : tie.Need-sub-whole-records-3
-sub-whole-records-3 c = ?
+sub-whole-records-3 c = let f = fall (c .before .before .before .before .before .before .before) in omega arith
 
--- src/frame.rt:126:11
 whole-records-requires-3 : tie.Need-whole-records-requires-3
 whole-records-requires-3 c κs = search needs
 
--- src/frame.rt:127:38
 sub-whole-records-4 : tie.Need-sub-whole-records-4
-sub-whole-records-4 c = ?
+sub-whole-records-4 c = let f = fall (c .before .before .before .before .before .before .before .before) in omega arith
 
--- src/frame.rt:127:11
 whole-records-requires-4 : tie.Need-whole-records-requires-4
 whole-records-requires-4 c κs = search needs
 
--- src/frame.rt:128:11
 whole-records-requires-5 : tie.Need-whole-records-requires-5
 whole-records-requires-5 c κs = search needs
 
--- src/frame.rt:109:1
 returns : tie.Need-returns
-returns c = ?
+unfolding lengthsRight
+returns c =
+    let d = c .before .before .before .before .before .before .before .before .before .before in
+    rw (
+      c .before .before .before .before .whole-records .ensures,
+      c .before .before .before .whole-records2 .ensures,
+      c .before .before .whole-records3 .ensures,
+      c .before .whole-records4 .ensures,
+      c .whole-records5 .ensures,
+      d .before .before .before .before .distance-of .ensures .0,
+      d .before .before .before .distance-of2 .ensures .0,
+      d .before .before .distance-of3 .ensures .0,
+      d .before .distance-of4 .ensures .0,
+      d .distance-of5 .ensures .0,
+    )
 
 pub lengths-right-spec : {M : Type 1} → statement M
 lengths-right-spec =

@@ -1,33 +1,26 @@
+-- `table::framing::section_of` meets its contract: within 65,536 bytes a section's start and its number of records fit sixteen bits.
 use borrow.Author.Needs.{needs}
 use native.Mathlib.Omega.{arith}
 use Prim.Native.Nat.{_-_}
 use native.Mathlib.Nat.{div-le-self}
 use Rattle.table.proofs.framing.section_of.Statement.{statement}
 use Rattle.table.proofs.framing.section_of.Tie as tie
-use Rattle.table.proofs.framing.section_of.Reads as reads
-use Rattle.table.proofs.framing.section_of.Lts as lts
 
--- src/frame.rt:66:17
 sub-start : tie.Need-sub-start
 sub-start c = search needs
 
--- src/frame.rt:67:20
 sub-records : tie.Need-sub-records
 sub-records c = search needs
 
--- src/frame.rt:67:19
 div-records : tie.Need-div-records
 div-records c = search needs
 
--- src/frame.rt:69:16
 cast-t9 : tie.Need-cast-t9
 cast-t9 c = search needs
 
--- src/frame.rt:71:18
 cast-t10 : tie.Need-cast-t10
 cast-t10 c = let h = div-le-self (c .args .d - c .args .e) (c .args .size) in record { fits = omega arith }
 
--- src/frame.rt:62:1
 returns : tie.Need-returns
 returns c = search needs
 

@@ -1,86 +1,123 @@
+-- `table::framing::sections_in` meets its contract: a right trailer and right distances tell that each section's bytes are there to be counted, and each
+-- section is then the definition's by what `section_of` answers at the distances.
 use borrow.Author.Needs.{needs}
+use Prim.Native.Nat.{ℕ, _+_, _-_, _≤_, _<_}
+use mathlib.Core.List.{List}
+use mathlib.Core.Path.{_≡_}
+use native.Mathlib.Omega.{arith}
+use lib.ListN.{length}
+use Rattle.table.specs.Sections.{byteAt, trailerAt, classesIn, variablesIn, sectionAt, lastSection, sectionsIn}
+use Rattle.table.proofs.Distances.{distances-fall, Numbered, trailer-numbers}
 use Rattle.table.proofs.framing.sections_in.Statement.{statement}
 use Rattle.table.proofs.framing.sections_in.Tie as tie
-use Rattle.table.proofs.framing.sections_in.Reads as reads
-use Rattle.table.proofs.framing.sections_in.Lts as lts
-use Rattle.table.proofs.framing.distance_of.Reads as distance-of-reads
-use Rattle.table.proofs.framing.section_of.Reads as section-of-reads
 
--- src/frame.rt:80:14
 sub-at : tie.Need-sub-at
 sub-at c = search needs
 
--- src/frame.rt:81:25
 add-classes : tie.Need-add-classes
 add-classes c = search needs
 
--- src/frame.rt:81:19
 shared-slice-read-classes : tie.Need-shared-slice-read-classes
 shared-slice-read-classes c = search needs
 
--- src/frame.rt:81:19
 cast-classes : tie.Need-cast-classes
-cast-classes c = ?
+cast-classes c =
+    let image = c .before .before .args .image .now in
+    omega (arith, c .shared-slice-known2 .given (length image - 14 + 10))
 
--- src/frame.rt:82:27
 add-variables : tie.Need-add-variables
 add-variables c = search needs
 
--- src/frame.rt:82:21
 shared-slice-read-variables : tie.Need-shared-slice-read-variables
 shared-slice-read-variables c = search needs
 
--- src/frame.rt:82:21
 cast-variables : tie.Need-cast-variables
-cast-variables c = ?
+cast-variables c =
+    let image = c .before .before .before .args .image .now in
+    omega (arith, c .shared-slice-known3 .given (length image - 14 + 11))
 
--- src/frame.rt:83:9
 distance-of-requires : tie.Need-distance-of-requires
 distance-of-requires c κs = search needs
 
--- src/frame.rt:84:9
 distance-of-requires-2 : tie.Need-distance-of-requires-2
 distance-of-requires-2 c κs = search needs
 
--- src/frame.rt:85:9
 distance-of-requires-3 : tie.Need-distance-of-requires-3
 distance-of-requires-3 c κs = search needs
 
--- src/frame.rt:86:9
 distance-of-requires-4 : tie.Need-distance-of-requires-4
 distance-of-requires-4 c κs = search needs
 
--- src/frame.rt:87:9
 distance-of-requires-5 : tie.Need-distance-of-requires-5
 distance-of-requires-5 c κs = search needs
 
--- src/frame.rt:89:19
+-- what the distances and the numbers are, once they are read
+record Known (image : List ℕ) (d₀ d₁ d₂ d₃ d₄ : ℕ) : Type 0 where
+  room : d₀ < 65536
+  first : d₀ ≡ length image - 14
+  second : d₁ ≤ d₀
+  third : d₂ ≤ d₁
+  fourth : d₃ ≤ d₂
+  fifth : d₄ ≤ d₃
+  numbers : Numbered image
+
+known : (c : tie.After-distance-of5)
+    → Known (c .before .before .before .before .before .before .before .before .args .image .now)
+    (c .before .before .before .before .distance-of .result) (c .before .before .before .distance-of2 .result)
+    (c .before .before .distance-of3 .result) (c .before .distance-of4 .result) (c .distance-of5 .result)
+unfolding trailerAt
+known c =
+    let start = c .before .before .before .before .before .before .before .before in
+    let f = distances-fall (start .args .image .now) (start .pre .2) in
+    record {
+      room = c .before .before .before .before .distance-of .ensures .1;
+      first = omega arith;
+      second = omega arith;
+      third = omega arith;
+      fourth = omega arith;
+      fifth = omega arith;
+      numbers = trailer-numbers (start .args .image .now) (start .pre .1);
+    }
+
 section-of-requires : tie.Need-section-of-requires
-section-of-requires c κs = ?
+section-of-requires c κs = let k = known c in omega arith
 
--- src/frame.rt:90:23
 section-of-requires-2 : tie.Need-section-of-requires-2
-section-of-requires-2 c κs = ?
+section-of-requires-2 c κs = let k = known (c .before) in omega arith
 
--- src/frame.rt:91:19
 section-of-requires-3 : tie.Need-section-of-requires-3
-section-of-requires-3 c κs = ?
+section-of-requires-3 c κs = let k = known (c .before .before) in omega arith
 
--- src/frame.rt:92:22
 section-of-requires-4 : tie.Need-section-of-requires-4
-section-of-requires-4 c κs = ?
+unfolding classesIn variablesIn trailerAt byteAt
+section-of-requires-4 c κs = let k = known (c .before .before .before) in omega arith
 
--- src/frame.rt:93:42
 add-section-of : tie.Need-add-section-of
-add-section-of c = ?
+unfolding classesIn variablesIn trailerAt byteAt
+add-section-of c = let k = known (c .before .before .before .before) in omega arith
 
--- src/frame.rt:93:20
 section-of-requires-5 : tie.Need-section-of-requires-5
-section-of-requires-5 c κs = ?
+unfolding classesIn variablesIn trailerAt byteAt
+section-of-requires-5 c κs = let k = known (c .before .before .before .before) in omega arith
 
--- src/frame.rt:76:1
 returns : tie.Need-returns
-returns c = ?
+unfolding sectionsIn sectionAt lastSection classesIn variablesIn trailerAt byteAt
+returns c =
+    let d = c .before .before .before .before .before in
+    let whole : d .distance-of5 .result - 0 ≡ d .distance-of5 .result = omega arith in
+    rw (
+      c .before .before .before .before .section-of .ensures,
+      c .before .before .before .section-of2 .ensures,
+      c .before .before .section-of3 .ensures,
+      c .before .section-of4 .ensures,
+      c .section-of5 .ensures,
+      whole,
+      d .before .before .before .before .distance-of .ensures .0,
+      d .before .before .before .distance-of2 .ensures .0,
+      d .before .before .distance-of3 .ensures .0,
+      d .before .distance-of4 .ensures .0,
+      d .distance-of5 .ensures .0,
+    )
 
 pub sections-in-spec : {M : Type 1} → statement M
 sections-in-spec =

@@ -1,48 +1,37 @@
+-- `table::framing::trailer_right` meets its contract: its tests are the definition's.
 use borrow.Author.Needs.{needs}
-use mathlib.Core.Path.{_≡_, refl, sym, _∙_, ap}
+use mathlib.Core.Path.{refl}
 use Rattle.table.specs.Sections.{trailerRight, byteAt, trailerAt, classesIn, variablesIn}
 use Rattle.table.proofs.framing.trailer_right.Statement.{statement}
 use Rattle.table.proofs.framing.trailer_right.Tie as tie
-use Rattle.table.proofs.framing.trailer_right.Reads as reads
-use Rattle.table.proofs.framing.trailer_right.Lts as lts
 
--- src/frame.rt:43:14
 sub-at : tie.Need-sub-at
 sub-at c = search needs
 
--- src/frame.rt:44:25
 add-classes : tie.Need-add-classes
 add-classes c = search needs
 
--- src/frame.rt:44:19
 shared-slice-read-classes : tie.Need-shared-slice-read-classes
 shared-slice-read-classes c = search needs
 
--- src/frame.rt:45:12
 add-result : tie.Need-add-result
 add-result c = search needs
 
--- src/frame.rt:45:6
 shared-slice-read-result : tie.Need-shared-slice-read-result
 shared-slice-read-result c = search needs
 
--- src/frame.rt:45:37
 add-result-2 : tie.Need-add-result-2
 add-result-2 c = search needs
 
--- src/frame.rt:45:31
 shared-slice-read-result-2 : tie.Need-shared-slice-read-result-2
 shared-slice-read-result-2 c = search needs
 
--- src/frame.rt:45:99
 add-result-3 : tie.Need-add-result-3
 add-result-3 c = search needs
 
--- src/frame.rt:45:93
 shared-slice-read-result-3 : tie.Need-shared-slice-read-result-3
 shared-slice-read-result-3 c = search needs
 
--- src/frame.rt:39:1
 returns : tie.Need-returns
 unfolding trailerRight byteAt trailerAt classesIn variablesIn
 returns c = refl
