@@ -3,7 +3,10 @@ pub mod Lists
 pub mod Tests
 pub mod Frame
 pub mod RightRecords
+pub mod RuleTests
+pub mod SectionOrder
 pub mod FirstWrong
+pub mod LetterNumbers
 pub mod Grouping
 pub mod Refusals
 pub mod Example

@@ -82,3 +82,23 @@ module _ (test : ℕ → Bool) where
       go : (o : Option ℕ) → firstFrom test i n ≡ o → firstFrom test i n ≡ none
       go none e = e
       go (some m) e = let f = first-found i n m e in absurd (clash (f .passes) (h m (f .low) (f .high)))
+
+  -- ---- One number more
+
+  pub first-kept : (n k : ℕ) → firstFrom test 0 n ≡ some k → firstFrom test 0 (n + 1) ≡ some k
+  first-kept n k e =
+      let f = first-found 0 n k e in
+      first-is 0 (n + 1) k (record { low = f .low; high = omega arith; passes = f .passes; earlier = f .earlier })
+
+  pub first-last : (n : ℕ) → firstFrom test 0 n ≡ none → test n ≡ true → firstFrom test 0 (n + 1) ≡ some n
+  first-last n e t =
+      first-is 0 (n + 1) n (record { low = omega arith; high = omega arith; passes = t; earlier = λ j l u. first-missing 0 n e j l (omega arith) })
+
+  pub first-none-more : (n : ℕ) → firstFrom test 0 n ≡ none → test n ≡ false → firstFrom test 0 (n + 1) ≡ none
+  first-none-more n e t =
+      let before = first-missing 0 n e in
+      first-is-not 0 (n + 1) (λ j l u. go j (decLt j n) (λ v. before j l (omega arith)) u)
+    where
+      go : (j : ℕ) → Dec (j < n) → (j < n → test j ≡ false) → j < 0 + (n + 1) → test j ≡ false
+      go j (yes v) earlier u = earlier v
+      go j (no d) earlier u = subst (λ (x : ℕ). test x ≡ false) (omega arith) t

@@ -3,6 +3,7 @@
 
 mod framing;
 mod read;
+mod records;
 
 pub use framing::locate;
 pub use read::record_byte;
@@ -38,4 +39,10 @@ pub enum Fault {
 pub enum Verdict {
     Accepted,
     Refused(Fault),
+}
+
+// What a search for a record answers: its number in the section.
+pub(crate) enum Found {
+    At(u16),
+    Nothing,
 }

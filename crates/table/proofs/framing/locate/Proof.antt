@@ -42,7 +42,7 @@ readable : (c : tie.Else2)
     → (trailerRight (c .before .before .before .before .before .args .image .now) ≡ true)
     × (distancesRight (c .before .before .before .before .before .args .image .now) ≡ true)
 readable c =
-    let h = both (not-false _ (c .if2 .left)) in
+    let h = both (c .before .before .trailer-right .result) (c .before .distances-right .result) (not-false _ (c .if2 .left)) in
     (sym (c .before .before .trailer-right .ensures) ∙ h .0, sym (c .before .distances-right .ensures) ∙ h .1)
 
 sections-in-requires : tie.Need-sections-in-requires
