@@ -7,10 +7,41 @@ use mathlib.Core.Logic.{Iff·trans}
 use mathlib.Core.Path.{_≡_, refl, sym, _∙_, ap}
 use native.Mathlib.Omega.{arith}
 use lib.ListN.{take}
-use Rattle.table.specs.Numbers.{letterClassByte, letterSignByte, lengthByte, stringByte, contextByte, entryClassByte, shiftByte, signsByte, leastLength, mostLength, leastShift, contextSize}
+use Rattle.table.specs.Numbers.{
+  letterClassByte,
+  letterSignByte,
+  lengthByte,
+  stringByte,
+  contextByte,
+  entryClassByte,
+  shiftByte,
+  signsByte,
+  leastLength,
+  mostLength,
+  leastShift,
+  contextSize,
+}
 use Rattle.table.specs.Search.{within, listFrom, listOf, every}
 use Rattle.table.specs.Sections.{recordByte}
-use Rattle.table.specs.Records.{rightClass, rightLetterSign, rightEntrySign, rightSignAfter, rightTransition, rightCondition, rightDecision, symbols, rightNewSymbol, letterRule, rightStringByte, rightContextByte, entryRule, contextRule, transitionRule, decisionRule, rightRecord}
+use Rattle.table.specs.Records.{
+  rightClass,
+  rightLetterSign,
+  rightEntrySign,
+  rightSignAfter,
+  rightTransition,
+  rightCondition,
+  rightDecision,
+  symbols,
+  rightNewSymbol,
+  letterRule,
+  rightStringByte,
+  rightContextByte,
+  entryRule,
+  contextRule,
+  transitionRule,
+  decisionRule,
+  rightRecord,
+}
 use Rattle.table.specs.Refusals.{symbolOf}
 use Rattle.table.specs.declared.Sections.{Sections}
 use Rattle.table.proofs.Tests.{Tells, same-tests, tells-and, every-law, both}
