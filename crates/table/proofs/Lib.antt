@@ -5,6 +5,7 @@ pub mod Frame
 pub mod RightRecords
 pub mod FirstWrong
 pub mod Grouping
+pub mod GroupLaws
 pub mod Refusals
 pub mod Example
 pub mod Product

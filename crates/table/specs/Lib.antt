@@ -6,6 +6,7 @@ pub mod Records
 pub mod Table
 pub mod Grouping
 pub mod Verdict
+pub mod Found
 pub mod Refusals
 pub mod Example
 pub mod Computing

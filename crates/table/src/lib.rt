@@ -1,6 +1,7 @@
 // A contraction table's stored image: where its five sections lie, what is wrong with it, if anything, and its records, read where they lie.
 // No function has to be asked with care: each answers for every image and every index. What each answer means is said in specs/.
 
+mod groups;
 mod read;
 
 pub use read::record_byte;
@@ -36,4 +37,10 @@ pub enum Fault {
 pub enum Verdict {
     Accepted,
     Refused(Fault),
+}
+
+// What a search for a record answers: its number in the section.
+pub(crate) enum Found {
+    At(u16),
+    Nothing,
 }
