@@ -122,7 +122,8 @@ module _ (strings : List (List ℕ)) (r : ℕ) where
       go j u (no v) (no h) = absurd (none-breaks strings r unbroken (pred r) (omega arith) (violation j (omega arith) (omega arith)))
 
 -- what holds from q to r - 1, and of the record before q, holds from that one on
-pub one-more-back : (P : ℕ → Type 0) (q r : ℕ) → ((j : ℕ) → q ≤ j → j < r → P j) → P (q - 1) → (j : ℕ) → q - 1 ≤ j → j < r → P j
+pub one-more-back : (P : ℕ → Type 0) (q r : ℕ) → ((j : ℕ) → q ≤ j → j < r → P j) → P (q - 1)
+    → (j : ℕ) → q - 1 ≤ j → j < r → P j
 one-more-back P q r later here j l u = go (ℕ-discrete (q - 1) j)
   where
     go : Dec (q - 1 ≡ j) → P j

@@ -1,5 +1,5 @@
-// The first contraction record that breaks the grouping. A record is compared with the records of its own group alone: where no record before it
-// breaks the grouping, none further back agrees with it in more characters. The strings are read where they lie, and padding is never compared.
+// The first contraction record that breaks the grouping. From a record the walk goes back only through the records that share as much with it as the one
+// just before it: where no earlier record breaks the grouping, none beyond them shares more. The strings are read where they lie, without their padding.
 
 ghost use mathlib.Core.Bool.{false};
 ghost use mathlib.Core.Path.{_≡_};
@@ -47,8 +47,7 @@ fn agreement_of(a: &[u8], b: &[u8]) -> usize
     i
 }
 
-// Whether record `r` breaks the grouping, where no record before it does: whether, on the way back from it through the records that share as much
-// with it as the one just before it, one shares more.
+// Whether record `r` breaks the grouping, where no record before it does: whether one on the walk back shares more with it than the one just before it.
 fn breaks_at(image: &[u8], s: Sections, r: u16) -> bool
     requires { ⌜ (0 < r) × (r < s .contractions .records) × ((k : ℕ) → k < r → breaksAt (strings (tableIn (now image) s)) k ≡ false) ⌝ }
     ensures { λ b. ⌜ b ≡ breaksAt (strings (tableIn (now (image .entry)) s)) r ⌝ }

@@ -16,7 +16,9 @@ use Rattle.table.proofs.groups.breaks_at.Tie as tie
 
 abbrev Inv-loop : tie.InvT-loop
 Inv-loop image s r string q₀ near q =
-    (q < r) × (near ≡ agreed (strings (tableIn image s)) (pred r) r) × ((j : ℕ) → q ≤ j → j < r → agreed (strings (tableIn image s)) j r ≤ near)
+    (q < r)
+    × (near ≡ agreed (strings (tableIn image s)) (pred r) r)
+    × ((j : ℕ) → q ≤ j → j < r → agreed (strings (tableIn image s)) j r ≤ near)
 
 abbrev μ-loop : tie.MeasureT-loop
 μ-loop image s r string q₀ near q = q

@@ -1,9 +1,9 @@
 -- `table::groups::string_of` meets its contract: where the image ends within the string, or before it, the definition takes what there is.
 use borrow.Author.Needs.{needs}
-use Prim.Native.Nat.{_+_, _-_}
-use mathlib.Core.Path.{_≡_}
+use Prim.Native.Nat.{ℕ, _+_, _-_}
+use mathlib.Core.Path.{_≡_, ap}
 use native.Mathlib.Omega.{arith}
-use lib.ListN.{length}
+use lib.ListN.{length, take, drop}
 use Rattle.table.specs.Sections.{recordPart, bytesFrom}
 use Rattle.table.specs.Table.{entryAt}
 use Rattle.table.proofs.GroupLaws.{take-past}
@@ -37,10 +37,12 @@ part-result-end c = search needs
 returns : tie.Need-returns
 unfolding entryAt recordPart bytesFrom
 returns c =
+    let i = c .before .before .before .before .before .before .args .image .now in
     let n = c .before .before .before .record-byte in
     let o = c .before .before .offset-of in
-    let size : o .result + 1 + n .result - (o .result + 1) ≡ n .result = omega arith in
-    rw (size, n .ensures .is, o .ensures .0)
+    let at = o .result + 1 in
+    let size : at + n .result - at ≡ n .result = omega arith in
+    rw (← n .ensures .is, ← o .ensures .0) (ap (λ (m : ℕ). take m (drop at i)) size)
 
 sub-result-2 : tie.Need-sub-result-2
 sub-result-2 c = search needs
