@@ -63,7 +63,7 @@ module _ (strings : List (List ℕ)) where
   abbrev at : ℕ → List ℕ
   at k = stringOf strings k
 
-  abbrev agreed : ℕ → ℕ → ℕ
+  abbrev pub agreed : ℕ → ℕ → ℕ
   agreed a b = agreement (at a) (at b)
 
   abbrev outdoes : ℕ → ℕ → Bool
@@ -139,7 +139,7 @@ module _ (strings : List (List ℕ)) where
           v .differ (subst (λ (k : ℕ). Agree (v .p) (at q) (at k)) e here)
 
   -- where the test passes no record below n, none of them breaks the grouping
-  none-breaks : (n : ℕ) → ((k : ℕ) → k < n → breaksAt strings k ≡ false) → (k : ℕ) → k < n → Breaks strings k → ⊥
+  pub none-breaks : (n : ℕ) → ((k : ℕ) → k < n → breaksAt strings k ≡ false) → (k : ℕ) → k < n → Breaks strings k → ⊥
   none-breaks zero h k l b = omega arith
   none-breaks (suc n) h k l b = go (none-breaks n (λ j m. h j (omega arith))) (decLt k n)
     where

@@ -8,6 +8,7 @@ pub mod SectionOrder
 pub mod FirstWrong
 pub mod LetterNumbers
 pub mod Grouping
+pub mod GroupLaws
 pub mod Refusals
 pub mod Example
 pub mod Product

@@ -2,6 +2,7 @@
 // No function has to be asked with care: each answers for every image and every index. What each answer means is said in specs/.
 
 mod framing;
+mod groups;
 mod read;
 mod records;
 
