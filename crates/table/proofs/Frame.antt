@@ -172,5 +172,18 @@ module _ (image : List ℕ) where
           absurd (omega arith)
       go false e = e
 
-  pub unframed-no-class : frameRight image ≡ false → sectionsOf image .classes ≡ 0
-  unframed-no-class e = ap (λ (s : Sections). s .classes) (sections-unframed e)
+  pub class-framed : (sectionsOf image .classes ≡ 0 → ⊥) → frameRight image ≡ true
+  class-framed some-class = go (frameRight image) refl
+    where
+      go : (b : Bool) → frameRight image ≡ b → frameRight image ≡ true
+      go true e = e
+      go false e = absurd (some-class (ap (λ (s : Sections). s .classes) (sections-unframed e)))
+
+  -- the trailer's two numbers, where the frame is right
+  pub framed-classes : frameRight image ≡ true → Between leastClasses mostClasses (sectionsOf image .classes)
+  unfolding sectionsIn
+  framed-classes e = rw (sections-framed e) (frame-right .0 e .classes-right)
+
+  pub framed-variables : frameRight image ≡ true → sectionsOf image .variables ≤ mostVariables
+  unfolding sectionsIn
+  framed-variables e = rw (sections-framed e) (frame-right .0 e .variables-right)

@@ -9,6 +9,7 @@ pub mod FirstWrong
 pub mod LetterNumbers
 pub mod Grouping
 pub mod GroupLaws
+pub mod VerdictSteps
 pub mod Refusals
 pub mod Example
 pub mod Product

@@ -2,10 +2,12 @@
 use Prim.Native.Nat.{ℕ, zero, suc, _+_, _≤_, _<_}
 use mathlib.Core.Bool.{Bool, true, false}
 use mathlib.Core.Option.{Option, none, some}
-use mathlib.Core.Path.{_≡_, refl, sym, _∙_, ap, subst}
+use mathlib.Core.Path.{_≡_, refl, _∙_, ap, subst}
 use native.Mathlib.Decide.{ℕ-discrete, decLt}
 use native.Mathlib.Omega.{arith}
 use Rattle.table.specs.Search.{firstFrom}
+use Rattle.table.specs.Found.{found}
+use Rattle.table.specs.declared.Found.the-variants.{At, Nothing}
 
 -- `k` is the first of the `n` numbers from `i` on that passes
 pub record FirstOf (test : ℕ → Bool) (i n k : ℕ) : Type 0 where
@@ -102,3 +104,13 @@ module _ (test : ℕ → Bool) where
       go : (j : ℕ) → Dec (j < n) → (j < n → test j ≡ false) → j < 0 + (n + 1) → test j ≡ false
       go j (yes v) earlier u = earlier v
       go j (no d) earlier u = subst (λ (x : ℕ). test x ≡ false) (omega arith) t
+
+-- ---- What the code answers tells what the search finds
+
+pub found-at : (o : Option ℕ) (k : ℕ) → found o ≡ At k → o ≡ some k
+found-at none k e = let z : _≡_ {A = ℕ} 0 1 = cc in absurd (omega arith)
+found-at (some j) k e = cc
+
+pub found-nothing : (o : Option ℕ) → found o ≡ Nothing → o ≡ none
+found-nothing none e = refl
+found-nothing (some j) e = let z : _≡_ {A = ℕ} 0 1 = cc in absurd (omega arith)

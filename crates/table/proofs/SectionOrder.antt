@@ -2,7 +2,7 @@
 -- sections by these numbers.
 use Prim.Native.Nat.{ℕ, zero, suc, _+_, _<_}
 use mathlib.Core.List.{List}
-use mathlib.Core.Option.{Option, none, some}
+use mathlib.Core.Option.{Option}
 use mathlib.Core.Path.{_≡_, refl, ap}
 use native.Mathlib.Numerals.{add-one}
 use native.Mathlib.Omega.{arith}
@@ -16,6 +16,7 @@ use Rattle.table.specs.Judging.{nameAt, wrongAt, foundWrong}
 use Rattle.table.specs.declared.Sections.{Sections}
 use Rattle.table.specs.declared.Found.the-variants.{At as FoundAt, Nothing}
 use Rattle.table.specs.declared.records.WrongRecord.the-variants.{At}
+use Rattle.table.proofs.Search.{found-at, found-nothing}
 
 pub named-by-number : (name : SectionName) → nameAt (sectionsBefore name) ≡ name
 named-by-number alphabet = refl
@@ -49,14 +50,6 @@ last-name (suc (suc (suc (suc zero)))) a b c d = refl
 last-name (suc (suc (suc (suc (suc i))))) a b c d = refl
 
 -- ---- The search, from section `i` on
-
-found-at : (o : Option ℕ) (k : ℕ) → found o ≡ FoundAt k → o ≡ some k
-found-at none k e = let z : _≡_ {A = ℕ} 0 1 = cc in absurd (omega arith)
-found-at (some j) k e = cc
-
-found-nothing : (o : Option ℕ) → found o ≡ Nothing → o ≡ none
-found-nothing none e = refl
-found-nothing (some j) e = let z : _≡_ {A = ℕ} 0 1 = cc in absurd (omega arith)
 
 module _ (image : List ℕ) (s : Sections) where
   abbrev pub wrongFrom : ℕ → Option Wrong

@@ -3,10 +3,14 @@
 
 mod framing;
 mod groups;
+mod judge;
 mod read;
 mod records;
 
 pub use framing::locate;
+pub use judge::check;
+pub use judge::fault_number;
+pub use judge::fault_place;
 pub use read::record_byte;
 pub use read::record_part;
 
