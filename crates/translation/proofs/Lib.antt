@@ -1,5 +1,7 @@
 pub mod Example
 pub mod Lists
+pub mod Loops
+pub mod Records
 pub mod Admissible
 pub mod Pieces
 pub mod Chosen

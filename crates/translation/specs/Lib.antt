@@ -4,6 +4,7 @@ pub mod Letters
 pub mod Decide
 pub mod Choose
 pub mod Pieces
+pub mod Found
 pub mod Computing
 pub mod Refusals
 pub mod Signs
