@@ -2,6 +2,8 @@ pub mod Example
 pub mod Lists
 pub mod Loops
 pub mod Records
+pub mod Writing
+pub mod Thinned
 pub mod Admissible
 pub mod Pieces
 pub mod Chosen

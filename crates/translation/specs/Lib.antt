@@ -5,6 +5,7 @@ pub mod Decide
 pub mod Choose
 pub mod Pieces
 pub mod Found
+pub mod Inside
 pub mod Computing
 pub mod Refusals
 pub mod Signs
