@@ -2,6 +2,7 @@ pub mod Example
 pub mod Lists
 pub mod Loops
 pub mod Records
+pub mod Moving
 pub mod Writing
 pub mod Thinned
 pub mod Admissible

@@ -3,7 +3,7 @@ use Prim.Native.Nat.{ℕ}
 use lib.ListN.{take}
 use Rattle.table.specs.declared.Sections.{Sections}
 use Rattle.translation.specs.Decide.{States, Ruling, accept, reject, next}
-use Rattle.translation.specs.declared.deciding.States.{States as Held}
+use Rattle.translation.specs.declared.variables.States.{States as Held}
 use Rattle.translation.specs.declared.deciding.Ruling.{Ruling as Said}
 use Rattle.translation.specs.declared.deciding.Ruling.the-variants.{Accept, Reject, Next}
 

@@ -10,13 +10,9 @@ ghost use Rattle.translation.specs.Decide.{state, byteOfClass, condition
 ghost use Rattle.translation.specs.Opened.{Opened};
 ghost use Rattle.translation.specs.States.{statesIn, said};
 
+use crate::variables::States;
 use table::Section;
 use table::Sections;
-
-// The states of the variables, as a value: yes or no for each of at most fifteen.
-pub(crate) struct States {
-    yes: [bool; 15],
-}
 
 // What a column says of a class.
 enum Ruling {

@@ -4,6 +4,7 @@
 mod alphabet;
 mod collapsing;
 mod deciding;
+mod variables;
 
 // What a translation is told besides the table and the text: the symbol that follows the end of the text.
 pub struct Setting {
