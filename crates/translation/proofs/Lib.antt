@@ -2,7 +2,9 @@ pub mod Example
 pub mod Lists
 pub mod Loops
 pub mod Records
+pub mod Entries
 pub mod Moving
+pub mod Rests
 pub mod Writing
 pub mod Thinned
 pub mod Admissible

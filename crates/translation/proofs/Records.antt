@@ -10,8 +10,10 @@ use native.Mathlib.Omega.{arith}
 use lib.Dec.{eqb}
 use lib.ListN.{length, getD, drop, length-drop, drop-of-length-le}
 use lib.Seq.{length-take-le, drop-cons, getD-take, getD-drop}
+use borrow.Author.Tests.{le-leb}
 use Rattle.table.specs.Search.{first}
 use Rattle.table.specs.Sections.{offset, byteAt, bytesFrom, recordByte, recordPart}
+use Rattle.table.specs.Promises.{partWithin}
 use Rattle.table.specs.Table.{Letter, Entry, Column, tableIn, letterAt, entryAt, contextAt, transitionAt, columnAt}
 use Rattle.table.specs.declared.Section.{Section}
 use Rattle.table.specs.declared.Sections.{Sections}
@@ -24,7 +26,7 @@ use Rattle.translation.proofs.Loops.{first-agrees}
 -- ---- Parts of a record that lie within the image
 
 -- past no end, what stands for a missing element doesn't matter
-getD-there : (xs : List ℕ) (i d e : ℕ) → i < length xs → getD xs i d ≡ getD xs i e
+pub getD-there : (xs : List ℕ) (i d e : ℕ) → i < length xs → getD xs i d ≡ getD xs i e
 getD-there [] i d e l = absurd (omega arith)
 getD-there (x ∷ xs) zero d e l = refl
 getD-there (x ∷ xs) (suc i) d e l = getD-there xs i d e (omega arith)
@@ -33,6 +35,10 @@ module _ (image : List ℕ) (section : Section) (k j n : ℕ) (inside : offset s
   pub part-long : length (recordPart image section k j n) ≡ n
   unfolding recordPart bytesFrom
   part-long = length-take-le n (drop (offset section k + j) image) (rw length-drop (omega arith))
+
+  pub part-within : partWithin image section k j n ≡ recordPart image section k j n
+  unfolding partWithin
+  part-within = rw (le-leb (offset section k + j + n) (length image) inside)
 
   pub part-at : (i d : ℕ) → i < n → getD (recordPart image section k j n) i d ≡ recordByte image section k (j + i)
   unfolding recordPart bytesFrom recordByte byteAt
@@ -92,3 +98,17 @@ module _ (image : List ℕ) (s : Sections) where
 
   pub columns-end : (k : ℕ) → s .decisions .records ≤ k → drop k (tableIn image s .decisions) ≡ []
   columns-end k l = drop-of-length-le (tableIn image s .decisions) {i = k} (rw columns-long l)
+
+-- ---- The entries and the right contexts
+
+  pub entries-long : length (tableIn image s .entries) ≡ s .contractions .records
+  unfolding tableIn
+  entries-long = length-listOf (entryAt image s) (s .contractions .records)
+
+  pub entry-at : (k : ℕ) → k < s .contractions .records → entry (tableIn image s) k ≡ entryAt image s k
+  unfolding tableIn
+  entry-at k l = getD-listOf (entryAt image s) (s .contractions .records) k _ l
+
+  pub context-at : (k : ℕ) → k < s .contexts .records → getD (tableIn image s .contexts) k [] ≡ contextAt image s k
+  unfolding tableIn
+  context-at k l = getD-listOf (contextAt image s) (s .contexts .records) k [] l

@@ -2,6 +2,7 @@
 // What each type means is said in specs/; this file has the types that the definitions and the calls share.
 
 mod alphabet;
+mod choosing;
 mod collapsing;
 mod deciding;
 mod variables;
