@@ -41,6 +41,15 @@ module _ (image : List ℕ) (s : Sections) (opened : Opened image s) (k : ℕ) (
   signs-long =
       part-long image (s .contractions) k signsByte entrySigns (let lies = opened .contractions-lie k there in omega arith)
 
+  pub signs-read : partWithin image (s .contractions) k signsByte entrySigns ≡ entryAt image s k .signs
+  unfolding entryAt
+  signs-read =
+      part-within image (s .contractions) k signsByte entrySigns (let lies = opened .contractions-lie k there in omega arith)
+
+  pub shift-right : Between leastShift (length (entryAt image s k .string)) (entryAt image s k .shift)
+  unfolding entryAt
+  shift-right = let r = right .shift-right in let e = string-long in record { low = r .low; high = omega arith }
+
   -- ---- The right context
 
   pub no-context-holds : (setting : Setting) (rest : List ℕ) → byte contextByte ≡ noContext

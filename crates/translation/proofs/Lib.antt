@@ -15,3 +15,5 @@ pub mod States
 pub mod Refusals
 pub mod Collapse
 pub mod Signs
+pub mod Printing
+pub mod Fronts

@@ -5,7 +5,10 @@ use mathlib.Core.List.{List, _∷_, _++_}
 use mathlib.Core.Path.{_≡_}
 use lib.ListN.{length, take, drop}
 use Rattle.translation.specs.Collapse.{unbarred, thinned}
+use Rattle.translation.specs.Pieces.{Piece, printed, signsOf}
 use Rattle.translation.specs.declared.collapsing.Run.{Run}
+use Rattle.translation.specs.declared.piecing.Piece.{Piece as MadePiece}
+use Rattle.translation.specs.declared.piecing.Counts.{Counts}
 
 -- ---- Writing
 
@@ -27,3 +30,20 @@ pub record Thins (c : ℕ) (run : Run) (before : List ℕ) (next : Run) (after :
   pub at-most-one : length added ≤ 1
   pub wrote : Wrote before (run .written) added after (next .written)
   pub whole : (text : List ℕ) → added ++ thinned (next .kept) (unbarred text) ≡ thinned (run .kept) (unbarred (c ∷ text))
+
+-- ---- Pieces
+
+-- a piece with this shift, class and signs is made: its signs are printed at place `n`
+pub record Made (shift class : ℕ) (signs before : List ℕ) (n : ℕ) (after : List ℕ) (made : MadePiece) : Type 0 where
+  pub shift-is : made .shift ≡ shift
+  pub class-is : made .class ≡ class
+  pub wrote : Wrote before n (printed signs) after (made .next)
+
+-- the piece is made as the definition has it
+abbrev pub MadeAs : Piece → List ℕ → ℕ → List ℕ → MadePiece → Type 0
+MadeAs p before n after made = Made (p .shift) (p .class) (p .signs) before n after made
+
+-- these pieces are all made: they are counted, and their signs stand at the front
+pub record Consumed (pieces : List Piece) (before after : List ℕ) (counts : Counts) : Type 0 where
+  pub counted : counts .pieces ≡ length pieces
+  pub wrote : Wrote before 0 (signsOf pieces) after (counts .signs)

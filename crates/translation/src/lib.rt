@@ -5,6 +5,7 @@ mod alphabet;
 mod choosing;
 mod collapsing;
 mod deciding;
+mod piecing;
 mod variables;
 
 // What a translation is told besides the table and the text: the symbol that follows the end of the text.
