@@ -17,3 +17,4 @@ pub mod Collapse
 pub mod Signs
 pub mod Printing
 pub mod Fronts
+pub mod Cursor

@@ -12,9 +12,6 @@ use Rattle.translation.specs.Letters.{isUnknown, firstUnknown}
 use Rattle.translation.proofs.Loops.{NoneBelow, none-yet, none-more, found-first, found-none}
 use Rattle.translation.proofs.alphabet.first_unknown.Statement.{statement}
 use Rattle.translation.proofs.alphabet.first_unknown.Tie as tie
-use Rattle.translation.proofs.alphabet.first_unknown.Reads as reads
-use Rattle.translation.proofs.alphabet.first_unknown.Lts as lts
-use Rattle.translation.proofs.alphabet.is_unknown.Reads as is-unknown-reads
 
 abbrev unknown : List ℕ → Sections → List ℕ → ℕ → Bool
 unknown image s text i = isUnknown (tableIn image s .letters) (getD text i 0)

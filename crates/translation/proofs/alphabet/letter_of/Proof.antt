@@ -13,9 +13,6 @@ use Rattle.translation.proofs.Loops.{NoneBelow, none-yet, none-more, fo
 use Rattle.translation.proofs.Records.{letter-of-read}
 use Rattle.translation.proofs.alphabet.letter_of.Statement.{statement}
 use Rattle.translation.proofs.alphabet.letter_of.Tie as tie
-use Rattle.translation.proofs.alphabet.letter_of.Reads as reads
-use Rattle.translation.proofs.alphabet.letter_of.Lts as lts
-use Rattle.table.proofs.record_byte.Reads as record-byte-reads
 
 abbrev has : List ℕ → Section → ℕ → ℕ → Bool
 has image alphabet c k = eqb (recordByte image alphabet k 0) c

@@ -5,8 +5,6 @@ use borrow.Author.Tests.{not-true, not-false}
 use Rattle.table.specs.Table.{entryAt}
 use Rattle.translation.proofs.choosing.allowed.Statement.{statement}
 use Rattle.translation.proofs.choosing.allowed.Tie as tie
-use Rattle.translation.proofs.choosing.allowed.Reads as reads
-use Rattle.translation.proofs.choosing.allowed.Lts as lts
 
 context-holds-requires : tie.Need-context-holds-requires
 context-holds-requires c κs = search needs

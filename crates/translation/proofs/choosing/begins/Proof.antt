@@ -13,8 +13,6 @@ use Rattle.translation.proofs.Records.{part-long, part-within, part-at}
 use Rattle.translation.proofs.Rests.{begins-differs}
 use Rattle.translation.proofs.choosing.begins.Statement.{statement}
 use Rattle.translation.proofs.choosing.begins.Tie as tie
-use Rattle.translation.proofs.choosing.begins.Reads as reads
-use Rattle.translation.proofs.choosing.begins.Lts as lts
 
 inside : (c : tie.Start) → offset (c .args .entries) (c .args .k) + stringByte + recordByte (c .args .image .now) (c .args .entries) (c .args .k) lengthByte
     ≤ length (c .args .image .now)

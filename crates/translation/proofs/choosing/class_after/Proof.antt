@@ -9,8 +9,6 @@ use Rattle.translation.specs.Choose.{classAfter}
 use Rattle.translation.proofs.Records.{getD-there}
 use Rattle.translation.proofs.choosing.class_after.Statement.{statement}
 use Rattle.translation.proofs.choosing.class_after.Tie as tie
-use Rattle.translation.proofs.choosing.class_after.Reads as reads
-use Rattle.translation.proofs.choosing.class_after.Lts as lts
 
 shared-slice-read-class-of : tie.Need-shared-slice-read-class-of
 shared-slice-read-class-of c = search needs

@@ -9,8 +9,6 @@ use Rattle.translation.specs.Choose.{classAfter}
 use Rattle.translation.proofs.Entries.{no-context-holds, context-holds-by}
 use Rattle.translation.proofs.choosing.context_holds.Statement.{statement}
 use Rattle.translation.proofs.choosing.context_holds.Tie as tie
-use Rattle.translation.proofs.choosing.context_holds.Reads as reads
-use Rattle.translation.proofs.choosing.context_holds.Lts as lts
 
 record-byte-requires : tie.Need-record-byte-requires
 record-byte-requires c κs = search needs

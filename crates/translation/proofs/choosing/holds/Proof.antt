@@ -8,8 +8,6 @@ use Rattle.table.specs.Search.{member}
 use Rattle.translation.proofs.Rests.{member-here, member-later, member-end}
 use Rattle.translation.proofs.choosing.holds.Statement.{statement}
 use Rattle.translation.proofs.choosing.holds.Tie as tie
-use Rattle.translation.proofs.choosing.holds.Reads as reads
-use Rattle.translation.proofs.choosing.holds.Lts as lts
 
 abbrev Inv-loop : tie.InvT-loop
 Inv-loop c classes i₀ i = (i ≤ length classes) × (member c (drop i classes) ≡ member c classes)

@@ -18,10 +18,6 @@ use Rattle.translation.proofs.Records.{entries-long}
 use Rattle.translation.proofs.Entries.{not-begun, begun}
 use Rattle.translation.proofs.choosing.search.Statement.{statement}
 use Rattle.translation.proofs.choosing.search.Tie as tie
-use Rattle.translation.proofs.choosing.search.Reads as reads
-use Rattle.translation.proofs.choosing.search.Lts as lts
-use Rattle.translation.proofs.choosing.begins.Reads as begins-reads
-use Rattle.translation.proofs.choosing.allowed.Reads as allowed-reads
 
 abbrev passes : List ℕ → Sections → Setting → States → List ℕ → ℕ → Bool
 passes image s setting states rest k = admissible (tableIn image s) setting states rest (entry (tableIn image s) k)

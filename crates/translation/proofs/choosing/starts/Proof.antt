@@ -9,8 +9,6 @@ use Rattle.translation.specs.Choose.{begins}
 use Rattle.translation.proofs.Rests.{begins-shorter, begins-agrees, begins-differs, begins-end}
 use Rattle.translation.proofs.choosing.starts.Statement.{statement}
 use Rattle.translation.proofs.choosing.starts.Tie as tie
-use Rattle.translation.proofs.choosing.starts.Reads as reads
-use Rattle.translation.proofs.choosing.starts.Lts as lts
 
 abbrev Inv-loop : tie.InvT-loop
 Inv-loop string rest i₀ i = (i ≤ length string) × (length string ≤ length rest) × (begins (drop i string) (drop i rest) ≡ begins string rest)

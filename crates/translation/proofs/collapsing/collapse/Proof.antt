@@ -8,9 +8,6 @@ use Rattle.translation.proofs.Writing.{wrote-long}
 use Rattle.translation.proofs.Thinned.{Collapsing, collapsing-starts, collapsing-goes-on, collapsing-ends}
 use Rattle.translation.proofs.collapsing.collapse.Statement.{statement}
 use Rattle.translation.proofs.collapsing.collapse.Tie as tie
-use Rattle.translation.proofs.collapsing.collapse.Reads as reads
-use Rattle.translation.proofs.collapsing.collapse.Lts as lts
-use Rattle.translation.proofs.collapsing.thin.Reads as thin-reads
 
 abbrev Inv-loop : tie.InvT-loop
 Inv-loop text out₀ run₀ i₀ out run i = Collapsing text out₀ out run i

@@ -8,10 +8,6 @@ use Rattle.translation.specs.Inside.{Thins}
 use Rattle.translation.proofs.Thinned.{bar-goes, blank-goes, blank-stays, other-stays, passed-over, written}
 use Rattle.translation.proofs.collapsing.thin.Statement.{statement}
 use Rattle.translation.proofs.collapsing.thin.Tie as tie
-use Rattle.translation.proofs.collapsing.thin.Reads as reads
-use Rattle.translation.proofs.collapsing.thin.Lts as lts
-use Rattle.translation.proofs.collapsing.kept_after.Reads as kept-after-reads
-use Rattle.translation.proofs.collapsing.unfed.Reads as unfed-reads
 
 returns : tie.Need-returns
 returns c = passed-over (search needs) (λ text. bar-goes _ _ text (c .if1 .taken))

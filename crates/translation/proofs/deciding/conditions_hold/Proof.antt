@@ -19,9 +19,6 @@ use Rattle.translation.proofs.Loops.{NoneBelow, none-yet, none-more, fo
 use Rattle.translation.proofs.Records.{part-long}
 use Rattle.translation.proofs.deciding.conditions_hold.Statement.{statement}
 use Rattle.translation.proofs.deciding.conditions_hold.Tie as tie
-use Rattle.translation.proofs.deciding.conditions_hold.Reads as reads
-use Rattle.translation.proofs.deciding.conditions_hold.Lts as lts
-use Rattle.translation.proofs.deciding.condition_holds.Reads as condition-holds-reads
 
 abbrev fails : List ℕ → Sections → States → ℕ → ℕ → Bool
 fails image s states k v = not (conditionHolds (getD (columnAt image s k .conditions) v dash) (state states v))

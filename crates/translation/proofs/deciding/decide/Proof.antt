@@ -13,9 +13,6 @@ use Rattle.translation.specs.States.{statesIn, said}
 use Rattle.translation.proofs.Records.{columns-from, columns-end}
 use Rattle.translation.proofs.deciding.decide.Statement.{statement}
 use Rattle.translation.proofs.deciding.decide.Tie as tie
-use Rattle.translation.proofs.deciding.decide.Reads as reads
-use Rattle.translation.proofs.deciding.decide.Lts as lts
-use Rattle.translation.proofs.deciding.rule.Reads as rule-reads
 
 abbrev decidedFrom : List ℕ → Sections → States → ℕ → ℕ → Bool
 decidedFrom image s states c k = decided (drop k (tableIn image s .decisions)) states c

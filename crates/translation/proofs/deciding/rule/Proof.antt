@@ -10,10 +10,6 @@ use Rattle.translation.specs.Decide.{byteOfClass, ruling}
 use Rattle.translation.proofs.Records.{by-class}
 use Rattle.translation.proofs.deciding.rule.Statement.{statement}
 use Rattle.translation.proofs.deciding.rule.Tie as tie
-use Rattle.translation.proofs.deciding.rule.Reads as reads
-use Rattle.translation.proofs.deciding.rule.Lts as lts
-use Rattle.translation.proofs.deciding.byte_of_class.Reads as byte-of-class-reads
-use Rattle.translation.proofs.deciding.conditions_hold.Reads as conditions-hold-reads
 use Rattle.table.specs.Table.{columnAt}
 
 byte-of-class-requires : tie.Need-byte-of-class-requires

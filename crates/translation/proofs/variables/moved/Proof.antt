@@ -12,10 +12,6 @@ use Rattle.translation.specs.Decide.{byteOfClass, turned}
 use Rattle.translation.proofs.Moving.{Moving, moving-starts, moving-goes-on, moving-ends}
 use Rattle.translation.proofs.variables.moved.Statement.{statement}
 use Rattle.translation.proofs.variables.moved.Tie as tie
-use Rattle.translation.proofs.variables.moved.Reads as reads
-use Rattle.translation.proofs.variables.moved.Lts as lts
-use Rattle.translation.proofs.deciding.byte_of_class.Reads as byte-of-class-reads
-use Rattle.translation.proofs.variables.turned.Reads as turned-reads
 
 abbrev turns : List ℕ → Section → ℕ → ℕ → ℕ → Bool → Bool
 turns image transitions classes c v = turned (byteOfClass (recordPart image transitions v 0 classes) c)
