@@ -19,6 +19,7 @@ use Rattle.layout.specs.Place.{
   afterLineEnd,
   lineEndBytes,
   afterEmptyLine,
+  afterParagraph,
   afterPage,
   afterPageEnd,
   openingBlanks,
@@ -28,6 +29,7 @@ use Rattle.layout.specs.Place.{
   afterWord,
   wordBytes,
 }
+use Rattle.layout.specs.Gather.{Modest}
 use Rattle.layout.specs.declared.Place.{Place}
 
 -- ---- The tests
@@ -201,3 +203,76 @@ word-spends-opening W P p n = go (held-or-empty (p .column)) (decLe (p .column +
     go (inl e) d = rw (word-starts W P p n e)
     go (inr l) (yes f) = rw (word-joins W P p n l f)
     go (inr l) (no d) = rw (word-overflows W P p n l (omega arith))
+
+-- ---- The numbers of a place grow slowly
+
+pub modest-more : {m n : ℕ} {p : Place} → m ≤ n → Modest m p → Modest n p
+modest-more h d =
+    record { column-most = omega arith; line-most = omega arith; written-most = omega arith; lines-most = omega arith; pages-most = omega arith }
+
+pub modest-line : (P m : ℕ) (p : Place) → Modest m p → Modest (m + 2) (afterLine P p)
+unfolding afterLine
+modest-line P m p d = go (fillsPage P p) refl
+  where
+    go : (b : Bool) → fillsPage P p ≡ b → Modest (m + 2) (afterLine P p)
+    go true e =
+        rw (e, afterLine)
+        (record { column-most = omega arith; line-most = omega arith; written-most = omega arith; lines-most = omega arith; pages-most = omega arith })
+    go false e =
+        rw (e, afterLine)
+        (record { column-most = omega arith; line-most = omega arith; written-most = omega arith; lines-most = omega arith; pages-most = omega arith })
+
+pub modest-line-end : (P m : ℕ) (p : Place) → Modest m p → Modest (m + 2) (afterLineEnd P p)
+modest-line-end P m p d = go (held-or-empty (p .column))
+  where
+    go : (p .column ≡ 0) ⊎ (0 < p .column) → Modest (m + 2) (afterLineEnd P p)
+    go (inl e) = rw (line-end-empty P p e) (modest-more (omega arith) d)
+    go (inr l) = rw (line-end-held P p l) (modest-line P m p d)
+
+pub opening-at-most : (W : ℕ) (p : Place) (n : ℕ) → openingBlanks W p n ≤ paragraphBlanks
+unfolding openingBlanks
+opening-at-most W p n = go (p .opening && leb (paragraphBlanks + n) W) refl
+  where
+    go : (b : Bool) → (p .opening && leb (paragraphBlanks + n) W) ≡ b → openingBlanks W p n ≤ paragraphBlanks
+    go true e = rw (e, openingBlanks) (omega arith)
+    go false e = rw (e, openingBlanks) (omega arith)
+
+pub modest-cells : (m n blanks : ℕ) (p : Place) → blanks ≤ paragraphBlanks → Modest m p → Modest (m + 2 + n) (afterCells p blanks n)
+unfolding afterCells
+modest-cells m n blanks p b d =
+    record { column-most = omega arith; line-most = omega arith; written-most = omega arith; lines-most = omega arith; pages-most = omega arith }
+
+pub modest-word : (W P m n : ℕ) (p : Place) → Modest m p → Modest (m + 4 + n) (afterWord W P p n)
+modest-word W P m n p d = go (held-or-empty (p .column)) (decLe (p .column + gapBlanks + n) W)
+  where
+    go : (p .column ≡ 0) ⊎ (0 < p .column) → Dec (p .column + gapBlanks + n ≤ W) → Modest (m + 4 + n) (afterWord W P p n)
+    go (inl e) x =
+        rw (word-starts W P p n e) (modest-more (omega arith) (modest-cells m n (openingBlanks W p n) p (opening-at-most W p n) d))
+    go (inr l) (yes f) = rw (word-joins W P p n l f) (modest-more (omega arith) (modest-cells m n gapBlanks p (omega arith) d))
+    go (inr l) (no x) =
+        let q : Place = afterLine P p in
+        rw (word-overflows W P p n l (omega arith))
+        (modest-more (omega arith) (modest-cells (m + 2) n (openingBlanks W q n) q (opening-at-most W q n) (modest-line P m p d)))
+
+pub modest-empty-line : (P m : ℕ) (p : Place) → Modest m p → Modest (m + 4) (afterEmptyLine P p)
+modest-empty-line P m p d = go (held-or-empty (afterLineEnd P p .line))
+  where
+    go : (afterLineEnd P p .line ≡ 0) ⊎ (0 < afterLineEnd P p .line) → Modest (m + 4) (afterEmptyLine P p)
+    go (inl e) = rw (empty-line-at-top P p e) (modest-more (omega arith) (modest-line-end P m p d))
+    go (inr l) = rw (empty-line-below P p l) (modest-more (omega arith) (modest-line P (m + 2) (afterLineEnd P p) (modest-line-end P m p d)))
+
+pub modest-page-end : (P m : ℕ) (p : Place) → Modest m p → Modest (m + 4) (afterPageEnd P p)
+unfolding afterPage
+modest-page-end P m p d = go (held-or-empty (afterLineEnd P p .line)) (modest-line-end P m p d)
+  where
+    go : (afterLineEnd P p .line ≡ 0) ⊎ (0 < afterLineEnd P p .line) → Modest (m + 2) (afterLineEnd P p) → Modest (m + 4) (afterPageEnd P p)
+    go (inl e) x = rw (page-end-empty P p e) (modest-more (omega arith) x)
+    go (inr l) x =
+        rw (page-end-lined P p l)
+        (record { column-most = omega arith; line-most = omega arith; written-most = omega arith; lines-most = omega arith; pages-most = omega arith })
+
+pub modest-paragraph : (P m : ℕ) (p : Place) → Modest m p → Modest (m + 4) (afterParagraph P p)
+unfolding afterParagraph
+modest-paragraph P m p d =
+    let x = modest-line-end P m p d in
+    record { column-most = omega arith; line-most = omega arith; written-most = omega arith; lines-most = omega arith; pages-most = omega arith }

@@ -96,13 +96,11 @@ unfoldable pub bytesOf : Table → Setting → List ℕ → ℕ → ℕ → List
 bytesOf table setting text W P = volume W P (itemsOf W (signsOf (piecesOf table setting text)))
 
 -- 8: output too short
+unfoldable pub roomed : List ℕ → List ℕ → ℕ → Outcome
+roomed out bytes n = elim (leb (length bytes) (length out)) [ true ↦ done out bytes n | false ↦ refused out (Room (length bytes)) ]
+
 unfoldable pub judgeRoom : Table → Setting → List ℕ → ℕ → ℕ → List ℕ → Outcome
-judgeRoom table setting text W P out =
-    let bytes = bytesOf table setting text W P in
-    elim (leb (length bytes) (length out)) [
-      | true ↦ done out bytes (length (piecesOf table setting text))
-      | false ↦ refused out (Room (length bytes))
-    ]
+judgeRoom table setting text W P out = roomed out (bytesOf table setting text W P) (length (piecesOf table setting text))
 
 -- 6: text over 16,384 bytes. 7: character without alphabet record
 unfoldable pub judgeText : Table → Setting → List ℕ → ℕ → ℕ → List ℕ → Outcome

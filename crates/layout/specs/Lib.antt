@@ -4,5 +4,13 @@ pub mod Place
 pub mod Pages
 pub mod Permitted
 pub mod Spots
+pub mod Lists
+pub mod Fitting
+pub mod Right
+pub mod Signs
+pub mod Drawn
+pub mod Gather
 pub mod Emboss
+pub mod Writing
+pub mod Refusals
 pub mod Computing

@@ -1,6 +1,11 @@
 // The whole call: translated signs are gathered into words, laid out in lines and pages, and written as cells.
 // What each type means is said in specs/; this file has the types that the definitions and the calls share.
 
+mod filling;
+mod measuring;
+mod moving;
+mod writing;
+
 use table::Fault;
 
 // A place on the page: the cells of the line that is being filled, the lines that the page has, whether the next word opens a paragraph,
@@ -12,6 +17,12 @@ pub struct Place {
     pub written: usize,
     pub lines: usize,
     pub pages: usize,
+}
+
+// How far the gathering of signs has come: the place, and how many cells of a word wait to be placed.
+struct Gathering {
+    place: Place,
+    cells: usize,
 }
 
 // What the whole call answers. A refusal has its place where it isn't fixed.

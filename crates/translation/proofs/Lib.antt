@@ -18,3 +18,4 @@ pub mod Signs
 pub mod Printing
 pub mod Fronts
 pub mod Cursor
+pub mod Accepted

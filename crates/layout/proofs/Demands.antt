@@ -1,0 +1,122 @@
+-- Demands 2 and 3 of a text and an accepted table: the laws of the layers, put together. Everything is over the words and format signs that the pieces
+-- of the text yield, for every W and P within the limits and every symbol that follows.
+use Prim.Native.Nat.{ℕ, _≤_, _<_}
+use mathlib.Core.Bool.{Bool}
+use mathlib.Core.List.{List, map, flatten}
+use mathlib.Core.Path.{_≡_, subst}
+use native.Mathlib.Omega.{arith}
+use lib.ListN.{length}
+use Rattle.table.specs.Refusals.{Between}
+use Rattle.table.specs.Table.{tableOf}
+use Rattle.table.specs.Verdict.{verdictOf}
+use Rattle.table.specs.declared.Verdict.{Verdict}
+use Rattle.table.specs.declared.Verdict.the-variants.{Accepted}
+use Rattle.translation.specs.Collapse.{collapsed}
+use Rattle.translation.specs.Pieces.{characters, piecesOf, signsOf}
+use Rattle.translation.specs.declared.Setting.{Setting}
+use Rattle.translation.proofs.Accepted.{accepted-sound}
+use Rattle.translation.proofs.Consumed.{consumed}
+use Rattle.translation.proofs.Signs.{signs-printed}
+use Rattle.layout.specs.Numbers.{leastWidth, mostWidth, leastPage, mostPage, lineMark, pageMark}
+use Rattle.layout.specs.Lists.{All, only}
+use Rattle.layout.specs.Words.{Item, itemsOf}
+use Rattle.layout.specs.Place.{volume}
+use Rattle.layout.specs.Pages.{pagesOf, bytesOfPages, count}
+use Rattle.layout.specs.Permitted.{Layout, Permitted}
+use Rattle.layout.specs.Spots.{layoutOf, withChoices, NoLater}
+use Rattle.layout.specs.Fitting.{Fitting, wordsIn}
+use Rattle.layout.specs.Right.{PageRight}
+use Rattle.layout.specs.Signs.{isDotted}
+use Rattle.layout.specs.Drawn.{volumeLines, Drawn}
+use Rattle.layout.specs.Emboss.{bytesOf}
+use Rattle.layout.proofs.Permitted as Permitted-laws
+use Rattle.layout.proofs.NoLater as NoLater-laws
+use Rattle.layout.proofs.Counts.{lines-are-64s, pages-are-65s}
+use Rattle.layout.proofs.Words.{items-fit}
+use Rattle.layout.proofs.Sheet as Sheet-laws
+use Rattle.layout.proofs.Signs.{volume-has-the-signs}
+use Rattle.layout.proofs.Drawn.{spots-are-the-bytes, choices-are-the-bytes}
+
+module _ (setting : Setting) (image text : List ℕ) (W P : ℕ) (width : Between leastWidth mostWidth W) (page : Between leastPage mostPage P)
+    (accepted : verdictOf image ≡ Accepted) where
+  -- the signs of the text, and its words and format signs
+  abbrev signs : List ℕ
+  signs = signsOf (piecesOf (tableOf image) setting text)
+
+  abbrev items : List Item
+  items = itemsOf W signs
+
+  -- ---- Demand 2
+
+  -- the characters of the pieces, joined, are the collapsed text
+  pub text-consumed : flatten (map characters (piecesOf (tableOf image) setting text)) ≡ collapsed text
+  unfolding piecesOf
+  text-consumed = consumed (tableOf image) setting (accepted-sound image accepted) (collapsed text)
+
+  -- the words have a cell and at most W, and their cells are 1 to 63
+  text-fits : Fitting W items
+  unfolding piecesOf
+  text-fits = items-fit (let w = width .low in omega arith) signs (signs-printed (tableOf image) (accepted-sound image accepted) setting (collapsed text))
+
+  page-room : 0 < P
+  page-room = let p = page .low in omega arith
+
+  -- no line has more than W cells or ends in a blank, its cells are at most 63; no page has more than P lines, or none
+  pub text-pages-right : All (PageRight W P) (pagesOf (bytesOf (tableOf image) setting text W P))
+  unfolding bytesOf
+  text-pages-right = Sheet-laws.pages-right W P items text-fits page-room
+
+  -- the pages, as lists of lines, have the output's bytes
+  pub text-pages-bytes : bytesOfPages (pagesOf (bytesOf (tableOf image) setting text W P)) ≡ bytesOf (tableOf image) setting text W P
+  unfolding bytesOf
+  text-pages-bytes = Sheet-laws.pages-have-the-bytes W P items text-fits page-room
+
+  -- the answer's lines and pages are those of the pages
+  pub text-lines-counted :
+      length (flatten (pagesOf (bytesOf (tableOf image) setting text W P))) ≡ count lineMark (bytesOf (tableOf image) setting text W P)
+  unfolding bytesOf
+  text-lines-counted = Sheet-laws.lines-counted W P items text-fits page-room
+
+  pub text-pages-counted : length (pagesOf (bytesOf (tableOf image) setting text W P)) ≡ count pageMark (bytesOf (tableOf image) setting text W P)
+  unfolding bytesOf
+  text-pages-counted = Sheet-laws.pages-counted W P items text-fits page-room
+
+  -- the cells of the pages that aren't blank are, in order, the signs 1 to 63
+  pub text-has-the-signs : only isDotted (flatten (flatten (pagesOf (bytesOf (tableOf image) setting text W P)))) ≡ only isDotted signs
+  unfolding bytesOf piecesOf
+  text-has-the-signs =
+      volume-has-the-signs W P signs (signs-printed (tableOf image) (accepted-sound image accepted) setting (collapsed text)) (let w = width .low in omega arith) page-room
+
+  -- ---- Demand 3
+
+  pub text-permitted : Permitted W P items (layoutOf W P items)
+  text-permitted = Permitted-laws.ours-permitted W P page-room items
+
+  -- each word of ours ends on no later line, and on the same line in no later column; ours has no more lines and no more pages
+  pub text-no-later : (layout : Layout) → Permitted W P items layout → NoLater (layoutOf W P items) layout
+  text-no-later = NoLater-laws.no-later W P page-room items
+
+  -- the spots of our layout are those of the output
+  pub text-spots : Drawn (volumeLines (bytesOf (tableOf image) setting text W P)) (wordsIn items) (layoutOf W P items .spots)
+  unfolding bytesOf layoutOf
+  text-spots = spots-are-the-bytes W P items text-fits page-room
+
+  -- and its lines and pages are the output's
+  pub text-layout-lines : layoutOf W P items .lines ≡ count lineMark (bytesOf (tableOf image) setting text W P)
+  unfolding bytesOf layoutOf
+  text-layout-lines = lines-are-64s W P items text-fits page-room
+
+  pub text-layout-pages : layoutOf W P items .pages ≡ count pageMark (bytesOf (tableOf image) setting text W P)
+  unfolding bytesOf layoutOf
+  text-layout-pages = pages-are-65s W P items text-fits page-room
+
+  -- every permitted layout arises from choices, and its spots are those of the bytes of the same words with the line ended before each chosen one
+  pub permitted-drawn : (layout : Layout) → Permitted W P items layout
+      → (choices : List Bool) × Drawn (volumeLines (volume W P (withChoices choices items))) (wordsIn items) (layout .spots)
+  unfolding layoutOf
+  permitted-drawn layout d =
+      let c = Permitted-laws.permitted-by-choices W P page-room items layout d in (
+        c .choices,
+        subst (λ (l : Layout). Drawn (volumeLines (volume W P (withChoices (c .choices) items))) (wordsIn items) (l .spots)) (c .same)
+            (choices-are-the-bytes W P items text-fits page-room (c .choices)),
+      )

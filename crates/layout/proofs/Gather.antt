@@ -1,0 +1,338 @@
+-- Sign by sign is word by word: what the items of the signs do to a place and write, from a word that is being gathered on, is what one sign does and
+-- writes, and then what the rest does. A word is placed as soon as it has W cells, since its parts are cut off in fulls of W.
+use Prim.Native.Nat.{ℕ, zero, suc, _+_, _≤_, _<_}
+use mathlib.Core.Bool.{Bool, true, false, cond, _||_}
+use mathlib.Core.List.{List, [], _∷_, _++_, map, append-assoc, append-nil}
+use mathlib.Core.Option.{Option, none, some}
+use mathlib.Core.Path.{_≡_, refl, sym, _∙_, ap, subst}
+use native.Mathlib.Decide.{decLe}
+use native.Mathlib.Numerals.{add-one}
+use native.Mathlib.Omega.{arith}
+use lib.Dec.{leb, ltb, eqb}
+use lib.ListN.{length, getD, take, drop, length-append, length-drop}
+use lib.Seq.{take-at, drop-at, drop-cons}
+use borrow.Author.Tests.{le-leb, lt-leb, leb-true, leb-false, lt-ltb, le-ltb, eqb-true, eqb-false, eq-eqb, ne-eqb}
+use Rattle.table.specs.Numbers.{blankCell, signLineEnd, signEmptyLine, signParagraph, signPageEnd}
+use Rattle.table.specs.Search.{isThere}
+use Rattle.layout.specs.Words.{Item, word, lineEnd, emptyLine, paragraph, pageEnd, formatOf, closed, gathered, cutWithin, parts, cutItem, cut}
+use Rattle.layout.specs.Place.{afterWord, wordBytes, afterItem, itemBytes, afterItems, itemsBytes, afterPageEnd, pageEndBytes, ended}
+use Rattle.layout.specs.Gather.{Modest, afterFlush, flushBytes, afterFormat, formatBytes, stepped, waiting, stepBytes, afterRest, restBytes}
+use Rattle.layout.specs.declared.Gathering.{Gathering}
+use Rattle.layout.specs.declared.Place.{Place}
+use Rattle.layout.proofs.Moves.{modest-more, modest-word, modest-line-end, modest-empty-line, modest-paragraph, modest-page-end}
+
+-- a format sign is no word
+format-no-word : (g : ℕ) (cells : List ℕ) → formatOf g ≡ some (word cells) → ⊥
+unfolding formatOf
+format-no-word g cells e = go (eqb g signLineEnd) (eqb g signEmptyLine) (eqb g signParagraph) (eqb g signPageEnd) e
+  where
+    go : (a b c d : Bool) → cond a (some lineEnd) (cond b (some emptyLine) (cond c (some paragraph) (cond d (some pageEnd) none))) ≡ some (word cells) → ⊥
+    go true b c d e = let z : _≡_ {A = ℕ} 0 1 = cc in omega arith
+    go false true c d e = let z : _≡_ {A = ℕ} 0 1 = cc in omega arith
+    go false false true d e = let z : _≡_ {A = ℕ} 0 1 = cc in omega arith
+    go false false false true e = let z : _≡_ {A = ℕ} 0 1 = cc in omega arith
+    go false false false false e = let z : _≡_ {A = ℕ} 0 1 = cc in omega arith
+
+module _ (W : ℕ) (wide : 1 ≤ W) where
+  -- ---- Cutting
+
+  cut-short : (n : ℕ) (cells : List ℕ) → length cells ≤ W → cutWithin (suc n) W cells ≡ cells ∷ []
+  unfolding cutWithin
+  cut-short n cells h = rw (le-leb (length cells) W h, cutWithin)
+
+  cut-long : (n : ℕ) (cells : List ℕ) → W < length cells → cutWithin (suc n) W cells ≡ take W cells ∷ cutWithin n W (drop W cells)
+  unfolding cutWithin
+  cut-long n cells h = rw (lt-leb (length cells) W h, cutWithin)
+
+  -- as many cuts as there are cells are enough, and more change nothing
+  cut-enough : (n m : ℕ) (cells : List ℕ) → length cells ≤ n → length cells ≤ m → cutWithin n W cells ≡ cutWithin m W cells
+  cut-enough zero zero cells h k = refl
+  cut-enough zero (suc m) cells h k = unfold cutWithin in sym (cut-short m cells (omega arith))
+  cut-enough (suc n) zero cells h k = unfold cutWithin in cut-short n cells (omega arith)
+  cut-enough (suc n) (suc m) cells h k = go (decLe (length cells) W) (cut-enough n m (drop W cells))
+    where
+      go : Dec (length cells ≤ W)
+          → (length (drop W cells) ≤ n → length (drop W cells) ≤ m → cutWithin n W (drop W cells) ≡ cutWithin m W (drop W cells))
+          → cutWithin (suc n) W cells ≡ cutWithin (suc m) W cells
+      go (yes short) less = cut-short n cells short ∙ sym (cut-short m cells short)
+      go (no d) less =
+          let e = length-drop W cells in
+          let long : W < length cells = omega arith in
+          cut-long n cells long ∙ ap (λ (r : List (List ℕ)). take W cells ∷ r) (less (omega arith) (omega arith)) ∙ sym (cut-long m cells long)
+
+  -- a word of at most W cells is one part
+  one-part : (cells : List ℕ) → length cells ≤ W → parts W cells ≡ cells ∷ []
+  unfolding parts
+  one-part cells h = cut-enough (length cells) (suc (length cells)) cells (omega arith) (omega arith) ∙ cut-short (length cells) cells h
+
+  -- W cells and some more are a part of W, and the parts of the others
+  full-part : (cells more : List ℕ) → length cells ≡ W → 1 ≤ length more → parts W (cells ++ more) ≡ cells ∷ parts W more
+  unfolding parts
+  full-part cells more e h =
+      let l = length-append cells more in
+      let d : drop W (cells ++ more) ≡ more = drop-at cells more W e in
+      let t : take W (cells ++ more) ≡ cells = take-at cells more W e in
+      let n : ℕ = length (cells ++ more) in
+      cut-enough n (suc n) (cells ++ more) (omega arith) (omega arith)
+      ∙ cut-long n (cells ++ more) (omega arith)
+      ∙ rw (t, d) (ap (λ (r : List (List ℕ)). cells ∷ r) (cut-enough n (length more) more (omega arith) (omega arith)))
+
+  -- ---- Items
+
+  cut-append : (xs ys : List Item) → cut W (xs ++ ys) ≡ cut W xs ++ cut W ys
+  unfolding cut
+  cut-append [] ys = refl
+  cut-append (x ∷ xs) ys = ap (λ (r : List Item). cutItem W x ++ r) (cut-append xs ys) ∙ sym (append-assoc (cutItem W x) (cut W xs) (cut W ys))
+
+  cut-closed : (cells : List ℕ) → length cells ≤ W → cut W (closed cells) ≡ closed cells
+  unfolding cut cutItem closed
+  cut-closed [] h = refl
+  cut-closed (c ∷ cells) h = rw (one-part (c ∷ cells) h)
+
+  cut-closed-full : (cells more : List ℕ) → length cells ≡ W → cut W (closed (cells ++ more)) ≡ word cells ∷ cut W (closed more)
+  unfolding cut cutItem closed
+  cut-closed-full [] more e = absurd (omega arith)
+  cut-closed-full (c ∷ cells) [] e = rw (append-nil (c ∷ cells), one-part (c ∷ cells) (omega arith))
+  cut-closed-full (c ∷ cells) (d ∷ more) e = rw (full-part (c ∷ cells) (d ∷ more) e (omega arith))
+
+  -- W cells that are gathered are a word of their own
+  gathered-full : (cells more signs : List ℕ) → length cells ≡ W → cut W (gathered (cells ++ more) signs) ≡ word cells ∷ cut W (gathered more signs)
+  unfolding gathered
+  gathered-full cells more [] e = cut-closed-full cells more e
+  gathered-full cells more (g ∷ signs) e = go (eqb g blankCell) (formatOf g) refl refl (gathered-full cells (more ++ g ∷ []) signs e)
+    where
+      parted : (items : List Item) → cut W (closed (cells ++ more) ++ items) ≡ word cells ∷ cut W (closed more ++ items)
+      parted items =
+          cut-append (closed (cells ++ more)) items ∙ ap (λ (r : List Item). r ++ cut W items) (cut-closed-full cells more e)
+          ∙ ap (λ (r : List Item). word cells ∷ r) (sym (cut-append (closed more) items))
+
+      go : (b : Bool) (f : Option Item) → eqb g blankCell ≡ b → formatOf g ≡ f
+          → cut W (gathered (cells ++ (more ++ g ∷ [])) signs) ≡ word cells ∷ cut W (gathered (more ++ g ∷ []) signs)
+          → cut W (gathered (cells ++ more) (g ∷ signs)) ≡ word cells ∷ cut W (gathered more (g ∷ signs))
+      go true f x y later = rw (x, gathered) (parted (gathered [] signs))
+      go false none x y later = rw (x, gathered, y, append-assoc cells more (g ∷ [])) later
+      go false (some format) x y later = rw (x, gathered, y) (parted (format ∷ gathered [] signs))
+
+module _ (W P : ℕ) (wide : 1 ≤ W) where
+  -- ---- What the items do, list after list
+
+  after-append : (p : Place) (xs ys : List Item) → afterItems W P p (xs ++ ys) ≡ afterItems W P (afterItems W P p xs) ys
+  unfolding afterItems
+  after-append p [] ys = refl
+  after-append p (x ∷ xs) ys = after-append (afterItem W P p x) xs ys
+
+  bytes-append : (p : Place) (xs ys : List Item) → itemsBytes W P p (xs ++ ys) ≡ itemsBytes W P p xs ++ itemsBytes W P (afterItems W P p xs) ys
+  unfolding itemsBytes afterItems
+  bytes-append p [] ys = refl
+  bytes-append p (x ∷ xs) ys =
+      ap (λ (r : List ℕ). itemBytes W P p x ++ r) (bytes-append (afterItem W P p x) xs ys)
+      ∙ sym (append-assoc (itemBytes W P p x) (itemsBytes W P (afterItem W P p x) xs) (itemsBytes W P (afterItems W P (afterItem W P p x) xs) ys))
+
+  after-closed : (p : Place) (cells : List ℕ) → afterItems W P p (closed cells) ≡ afterFlush W P p (length cells)
+  unfolding afterItems afterItem closed afterFlush
+  after-closed p [] = refl
+  after-closed p (c ∷ cells) = rw (lt-ltb 0 (length (c ∷ cells)) (omega arith))
+
+  bytes-closed : (p : Place) (cells : List ℕ) → itemsBytes W P p (closed cells) ≡ flushBytes W P p cells
+  unfolding itemsBytes itemBytes closed flushBytes
+  bytes-closed p [] = refl
+  bytes-closed p (c ∷ cells) = rw (lt-ltb 0 (length (c ∷ cells)) (omega arith)) (append-nil (wordBytes W P p (c ∷ cells)))
+
+  -- ---- What is left to do, from a place on
+
+  -- both at once: the place at the end, and the bytes
+  record Runs (p : Place) (items : List Item) (done : List ℕ) (q : Place) (items′ : List Item) : Type 0 where
+    place : afterItems W P p items ≡ afterItems W P q items′
+    written : itemsBytes W P p items ≡ done ++ itemsBytes W P q items′
+
+  -- some items first
+  runs-append : (p : Place) (xs ys : List Item) → Runs p (xs ++ ys) (itemsBytes W P p xs) (afterItems W P p xs) ys
+  runs-append p xs ys = record { place = after-append p xs ys; written = bytes-append p xs ys }
+
+  -- the cells that wait are placed first
+  runs-closed : (p : Place) (cells : List ℕ) (items : List Item) → length cells ≤ W
+      → Runs p (ended (cut W (closed cells ++ items))) (flushBytes W P p cells) (afterFlush W P p (length cells)) (ended (cut W items))
+  unfolding ended
+  runs-closed p cells items h =
+      let e : cut W (closed cells ++ items) ++ pageEnd ∷ [] ≡ closed cells ++ (cut W items ++ pageEnd ∷ []) =
+      ap (λ (r : List Item). r ++ pageEnd ∷ [])
+      (cut-append W wide (closed cells) items ∙ ap (λ (r : List Item). r ++ cut W items) (cut-closed W wide cells h))
+      ∙ append-assoc (closed cells) (cut W items) (pageEnd ∷ []) in
+      let r = runs-append p (closed cells) (cut W items ++ pageEnd ∷ []) in
+      record {
+        place = rw e (r .place ∙ ap (λ (q : Place). afterItems W P q (cut W items ++ pageEnd ∷ [])) (after-closed p cells));
+        written = rw e (r .written ∙ rw (bytes-closed p cells, after-closed p cells));
+      }
+
+  -- a format sign isn't cut
+  format-whole : (g : ℕ) (f : Item) → formatOf g ≡ some f → cutItem W f ≡ f ∷ []
+  unfolding cutItem
+  format-whole g lineEnd e = refl
+  format-whole g emptyLine e = refl
+  format-whole g paragraph e = refl
+  format-whole g pageEnd e = refl
+  format-whole g (word cells) e = absurd (format-no-word g cells e)
+
+  -- W cells that wait are placed as a word
+  runs-full : (p : Place) (cells signs : List ℕ) (n : ℕ) → length cells ≡ n → n ≡ W
+      → Runs p (ended (cut W (gathered cells signs))) (wordBytes W P p cells) (afterWord W P p n) (ended (cut W (gathered [] signs)))
+  unfolding ended afterItems afterItem itemsBytes itemBytes
+  runs-full p cells signs n e f =
+      let c : cut W (gathered cells signs) ≡ word cells ∷ cut W (gathered [] signs) =
+      ap (λ (r : List ℕ). cut W (gathered r signs)) (sym (append-nil cells)) ∙ gathered-full W wide cells [] signs (e ∙ f) in
+      rw (c, ← e) (record { place = refl; written = refl })
+
+  after-format : (p : Place) (g : ℕ) (f : Item) → formatOf g ≡ some f → afterFormat W P p g ≡ afterItem W P p f
+  unfolding afterFormat
+  after-format p g f y = rw (y, afterFormat)
+
+  bytes-format : (p : Place) (g : ℕ) (f : Item) → formatOf g ≡ some f → formatBytes W P p g ≡ itemBytes W P p f
+  unfolding formatBytes
+  bytes-format p g f y = rw (y, formatBytes)
+
+  -- a format sign after the cells that wait
+  runs-format : (p : Place) (cells : List ℕ) (g : ℕ) (f : Item) (signs : List ℕ) → length cells ≤ W → formatOf g ≡ some f
+      → Runs p (ended (cut W (closed cells ++ f ∷ gathered [] signs)))
+      (flushBytes W P p cells ++ formatBytes W P (afterFlush W P p (length cells)) g)
+      (afterFormat W P (afterFlush W P p (length cells)) g)
+      (ended (cut W (gathered [] signs)))
+  unfolding ended cut afterItems itemsBytes
+  runs-format p cells g f signs h y =
+      let r = runs-closed p cells (f ∷ gathered [] signs) h in
+      let q : Place = afterFlush W P p (length cells) in
+      let c : cut W (f ∷ gathered [] signs) ≡ f ∷ cut W (gathered [] signs) =
+      ap (λ (r : List Item). r ++ cut W (gathered [] signs)) (format-whole g f y) in
+      record {
+        place = r .place ∙ rw (c, after-format q g f y);
+        written =
+            r .written
+            ∙ rw (c, after-format q g f y, bytes-format q g f y)
+            (sym (append-assoc (flushBytes W P p cells) (itemBytes W P q f) (itemsBytes W P (afterItem W P q f) (cut W (gathered [] signs) ++ pageEnd ∷ []))));
+      }
+
+  -- ---- One sign
+
+  abbrev Step : Place → List ℕ → ℕ → List ℕ → Type 0
+  Step p cells g signs =
+      Runs p (ended (cut W (gathered cells (g ∷ signs)))) (stepBytes W P p cells g) (stepped W P p (length cells) g .place)
+      (ended (cut W (gathered (waiting W cells g) signs)))
+
+  runs-step : (p : Place) (cells : List ℕ) (g : ℕ) (signs : List ℕ) → length cells < W → Step p cells g signs
+  unfolding gathered stepped stepBytes waiting
+  runs-step p cells g signs h = go (eqb g blankCell) (formatOf g) (eqb (length cells + 1) W) refl refl refl
+    where
+      go : (b : Bool) (f : Option Item) (full : Bool) → eqb g blankCell ≡ b → formatOf g ≡ f → eqb (length cells + 1) W ≡ full → Step p cells g signs
+      go true f full x y z = rw (x, gathered) (runs-closed p cells (gathered [] signs) (omega arith))
+      go false none true x y z =
+          rw (x, gathered, y, z) (runs-full p (cells ++ g ∷ []) signs (length cells + 1) (length-append cells (g ∷ [])) (eqb-true (length cells + 1) W z))
+      go false none false x y z = rw (x, gathered, y, z) (record { place = refl; written = refl })
+      go false (some f) full x y z = rw (x, gathered, y) (runs-format p cells g f signs (omega arith) y)
+
+  -- ---- For the loops
+
+  pub waiting-length : (p : Place) (cells : List ℕ) (g : ℕ) → length (waiting W cells g) ≡ stepped W P p (length cells) g .cells
+  unfolding waiting stepped
+  waiting-length p cells g = go (eqb g blankCell) (isThere (formatOf g)) (eqb (length cells + 1) W) refl refl refl
+    where
+      go : (b f full : Bool) → eqb g blankCell ≡ b → isThere (formatOf g) ≡ f → eqb (length cells + 1) W ≡ full
+          → length (waiting W cells g) ≡ stepped W P p (length cells) g .cells
+      go true f full x y z = rw x
+      go false true full x y z = rw (x, y)
+      go false false true x y z = rw (x, y, z)
+      go false false false x y z = rw (x, y, z) (length-append cells (g ∷ []))
+
+  pub waiting-below : (cells : List ℕ) (g : ℕ) → length cells < W → length (waiting W cells g) < W
+  unfolding waiting
+  waiting-below cells g h = go (eqb g blankCell) (isThere (formatOf g)) (eqb (length cells + 1) W) refl refl refl
+    where
+      go : (b f full : Bool) → eqb g blankCell ≡ b → isThere (formatOf g) ≡ f → eqb (length cells + 1) W ≡ full → length (waiting W cells g) < W
+      go true f full x y z = rw x wide
+      go false true full x y z = rw (x, y) wide
+      go false false true x y z = rw (x, y, z) wide
+      go false false false x y z =
+          let l = length-append cells (g ∷ []) in
+          let d = eqb-false (length cells + 1) W z in
+          let n : (length cells + 1 ≡ W → ⊥) = d in
+          rw (x, y, z) (omega arith)
+
+  pub step-after : (p : Place) (cells : List ℕ) (g : ℕ) (signs : List ℕ) → length cells < W
+      → afterRest W P p cells (g ∷ signs) ≡ afterRest W P (stepped W P p (length cells) g .place) (waiting W cells g) signs
+  unfolding afterRest
+  step-after p cells g signs h = runs-step p cells g signs h .place
+
+  pub step-bytes : (p : Place) (cells : List ℕ) (g : ℕ) (signs : List ℕ) → length cells < W
+      → restBytes W P p cells (g ∷ signs) ≡ stepBytes W P p cells g ++ restBytes W P (stepped W P p (length cells) g .place) (waiting W cells g) signs
+  unfolding restBytes
+  step-bytes p cells g signs h = runs-step p cells g signs h .written
+
+  pub end-after : (p : Place) (cells : List ℕ) → length cells ≤ W → afterRest W P p cells [] ≡ afterPageEnd P (afterFlush W P p (length cells))
+  unfolding afterRest gathered ended cut afterItems afterItem
+  end-after p cells h = rw (cut-closed W wide cells h) (after-append p (closed cells) (pageEnd ∷ []) ∙ ap (λ (q : Place). afterPageEnd P q) (after-closed p cells))
+
+  pub end-bytes : (p : Place) (cells : List ℕ) → length cells ≤ W
+      → restBytes W P p cells [] ≡ flushBytes W P p cells ++ pageEndBytes P (afterFlush W P p (length cells))
+  unfolding restBytes gathered ended itemsBytes itemBytes
+  end-bytes p cells h =
+      rw (cut-closed W wide cells h)
+      (bytes-append p (closed cells) (pageEnd ∷ [])
+      ∙ rw (bytes-closed p cells, after-closed p cells) (ap (λ (r : List ℕ). flushBytes W P p cells ++ r) (append-nil (pageEndBytes P (afterFlush W P p (length cells))))))
+
+-- ---- The numbers of the place stay small
+
+module _ (W P : ℕ) where
+  pub modest-flush : (m n : ℕ) (p : Place) → Modest m p → Modest (m + 4 + n) (afterFlush W P p n)
+  unfolding afterFlush
+  modest-flush m n p d = go (ltb 0 n) refl
+    where
+      go : (b : Bool) → ltb 0 n ≡ b → Modest (m + 4 + n) (afterFlush W P p n)
+      go true e = rw (e, afterFlush) (modest-word W P m n p d)
+      go false e = rw (e, afterFlush) (modest-more (omega arith) d)
+
+  pub modest-format : (m g : ℕ) (p : Place) → Modest m p → Modest (m + 4) (afterFormat W P p g)
+  modest-format m g p d = go (formatOf g) refl
+    where
+      go : (o : Option Item) → formatOf g ≡ o → Modest (m + 4) (afterFormat W P p g)
+      go none e = unfold afterFormat in rw (e, afterFormat) (modest-more (omega arith) d)
+      go (some lineEnd) e = unfold afterFormat afterItem in rw (e, afterFormat) (modest-more (omega arith) (modest-line-end P m p d))
+      go (some emptyLine) e = unfold afterFormat afterItem in rw (e, afterFormat) (modest-empty-line P m p d)
+      go (some paragraph) e = unfold afterFormat afterItem in rw (e, afterFormat) (modest-paragraph P m p d)
+      go (some pageEnd) e = unfold afterFormat afterItem in rw (e, afterFormat) (modest-page-end P m p d)
+      go (some (word cells)) e = absurd (format-no-word g cells e)
+
+  -- a sign adds at most 70 to each number, where fewer than 61 cells wait
+  pub modest-step : (m n g : ℕ) (p : Place) → n < 61 → Modest m p → Modest (m + 70) (stepped W P p n g .place)
+  unfolding stepped
+  modest-step m n g p h d = go (eqb g blankCell) (isThere (formatOf g)) (eqb (n + 1) W) refl refl refl
+    where
+      go : (b f full : Bool) → eqb g blankCell ≡ b → isThere (formatOf g) ≡ f → eqb (n + 1) W ≡ full → Modest (m + 70) (stepped W P p n g .place)
+      go true f full x y z = rw x (modest-more (omega arith) (modest-flush m n p d))
+      go false true full x y z = rw (x, y) (modest-more (omega arith) (modest-format (m + 4 + n) g (afterFlush W P p n) (modest-flush m n p d)))
+      go false false true x y z = rw (x, y, z) (modest-more (omega arith) (modest-word W P m (n + 1) p d))
+      go false false false x y z = rw (x, y, z) (modest-more (omega arith) d)
+
+-- the test for a format sign
+pub format-test : (g : ℕ) → isThere (formatOf g) ≡ (eqb g signLineEnd || eqb g signEmptyLine || eqb g signParagraph || eqb g signPageEnd)
+unfolding formatOf
+format-test g = go (eqb g signLineEnd) (eqb g signEmptyLine) (eqb g signParagraph) (eqb g signPageEnd)
+  where
+    go : (a b c d : Bool)
+        → isThere {A = Item} (cond a (some lineEnd) (cond b (some emptyLine) (cond c (some paragraph) (cond d (some pageEnd) none)))) ≡ (a || b || c || d)
+    go true b c d = refl
+    go false true c d = refl
+    go false false true d = refl
+    go false false false true = refl
+    go false false false false = refl
+
+-- ---- A turn of a loop over the signs: what is left after it is what was left before
+
+module _ (W P : ℕ) (wide : 1 ≤ W) (signs : List ℕ) (i : ℕ) (there : i < length signs) (p : Place) (cells : List ℕ) (below : length cells < W) where
+  abbrev sign : ℕ
+  sign = getD signs i 0
+
+  pub turn-after : afterRest W P p cells (drop i signs) ≡ afterRest W P (stepped W P p (length cells) sign .place) (waiting W cells sign) (drop (i + 1) signs)
+  turn-after = rw (drop-cons signs i 0 there, add-one i) (step-after W P wide p cells sign (drop (suc i) signs) below)
+
+  pub turn-bytes :
+      restBytes W P p cells (drop i signs)
+      ≡ stepBytes W P p cells sign ++ restBytes W P (stepped W P p (length cells) sign .place) (waiting W cells sign) (drop (i + 1) signs)
+  turn-bytes = rw (drop-cons signs i 0 there, add-one i) (step-bytes W P wide p cells sign (drop (suc i) signs) below)

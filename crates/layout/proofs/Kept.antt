@@ -1,0 +1,252 @@
+-- What every move keeps, the volume keeps. `R` relates the bytes written, the words placed, their spots and the place. There are four moves: cells go
+-- on the line, a 64 ends it, a 65 ends the page, and the next word is told to open a paragraph. Whatever `R` all four keep, it holds after any items
+-- that fit.
+use Prim.Native.Nat.{ℕ, _+_, _≤_, _<_}
+use mathlib.Core.Bool.{Bool, true, false, cond, _&&_}
+use mathlib.Core.List.{List, [], _∷_, _++_, append-assoc, append-nil}
+use mathlib.Core.Logic.{_≢_, _⊎_, inl, inr}
+use mathlib.Core.Path.{_≡_, refl}
+use native.Mathlib.Omega.{arith}
+use lib.Dec.{leb, ltb, eqb}
+use lib.ListN.{length}
+use borrow.Author.Tests.{ltb-true, ltb-false, leb-true, eqb-true, eqb-false}
+use Rattle.layout.specs.Numbers.{gapBlanks, paragraphBlanks, lineMark, pageMark}
+use Rattle.layout.specs.Words.{Item, word, lineEnd, emptyLine, paragraph, pageEnd}
+use Rattle.layout.specs.Place.{
+  start,
+  holdsCell,
+  hasLine,
+  fillsPage,
+  afterLine,
+  lineBytes,
+  afterLineEnd,
+  lineEndBytes,
+  afterEmptyLine,
+  emptyLineBytes,
+  afterParagraph,
+  paragraphBytes,
+  afterPage,
+  afterPageEnd,
+  pageEndBytes,
+  openingBlanks,
+  joins,
+  afterCells,
+  cellsAfter,
+  afterWord,
+  wordBytes,
+  afterItem,
+  itemBytes,
+  afterItems,
+  itemsBytes,
+  ended,
+  volumeEnd,
+  volume,
+}
+use Rattle.layout.specs.Permitted.{Spot}
+use Rattle.layout.specs.Spots.{spot, spotAfter, spotsFrom}
+use Rattle.layout.specs.Lists.{empty, _and_}
+use Rattle.layout.specs.Fitting.{WordFits, Fitting, wordsIn}
+use Rattle.layout.specs.declared.Place.{Place}
+use Rattle.layout.proofs.Moves.{line-is-fresh, line-end-is-fresh, page-end-lined, page-end-empty, held-or-empty}
+
+-- ---- The four moves of a place
+
+abbrev pub celled : Place → ℕ → ℕ → Place
+celled p blanks n =
+    record {
+      column = p .column + blanks + n;
+      line = p .line;
+      opening = false;
+      written = p .written + blanks + n;
+      lines = p .lines;
+      pages = p .pages;
+    }
+
+abbrev pub lined : Place → Place
+lined p = record { column = 0; line = p .line + 1; opening = p .opening; written = p .written + 1; lines = p .lines + 1; pages = p .pages }
+
+abbrev pub paged : Place → Place
+paged p = record { column = 0; line = 0; opening = p .opening; written = p .written + 1; lines = p .lines; pages = p .pages + 1 }
+
+abbrev pub opened : Place → Place
+opened p = record { column = p .column; line = p .line; opening = true; written = p .written; lines = p .lines; pages = p .pages }
+
+pub record Kept (W P : ℕ) (R : List ℕ → List (List ℕ) → List Spot → Place → Type 0) : Type 0 where
+  pub cells : (bytes : List ℕ) (words : List (List ℕ)) (spots : List Spot) (p : Place) (blanks : ℕ) (w : List ℕ) → WordFits W w
+      → p .column + blanks + length w ≤ W → R bytes words spots p
+      → R (bytes ++ cellsAfter blanks w) (words ++ w ∷ []) (spots ++ spot (celled p blanks (length w)) ∷ []) (celled p blanks (length w))
+  pub line : (bytes : List ℕ) (words : List (List ℕ)) (spots : List Spot) (p : Place) → p .line < P → R bytes words spots p
+      → R (bytes ++ lineMark ∷ []) words spots (lined p)
+  pub page : (bytes : List ℕ) (words : List (List ℕ)) (spots : List Spot) (p : Place) → p .column ≡ 0 → 0 < p .line → p .line ≤ P
+      → R bytes words spots p → R (bytes ++ pageMark ∷ []) words spots (paged p)
+  pub opens : (bytes : List ℕ) (words : List (List ℕ)) (spots : List Spot) (p : Place) → R bytes words spots p → R bytes words spots (opened p)
+
+-- ---- What opens a line fits
+
+opening-fits : (W : ℕ) (p : Place) (n : ℕ) → n ≤ W → openingBlanks W p n + n ≤ W
+unfolding openingBlanks
+opening-fits W p n h = go (p .opening) (leb (paragraphBlanks + n) W) refl
+  where
+    go : (b c : Bool) → leb (paragraphBlanks + n) W ≡ c → cond (b && c) paragraphBlanks 0 + n ≤ W
+    go true true e = leb-true (paragraphBlanks + n) W e
+    go true false e = omega arith
+    go false c e = omega arith
+
+-- ---- The end of text is as 73
+
+bytes-to-the-end : (W P : ℕ) (p : Place) (items : List Item)
+    → itemsBytes W P p (items ++ pageEnd ∷ []) ≡ itemsBytes W P p items ++ pageEndBytes P (afterItems W P p items)
+unfolding itemsBytes itemBytes afterItems
+bytes-to-the-end W P p [] = append-nil (pageEndBytes P p)
+bytes-to-the-end W P p (item ∷ items) = rw (append-assoc, bytes-to-the-end W P (afterItem W P p item) items)
+
+place-at-the-end : (W P : ℕ) (p : Place) (items : List Item)
+    → afterItems W P p (items ++ pageEnd ∷ []) ≡ afterPageEnd P (afterItems W P p items)
+unfolding afterItems afterItem
+place-at-the-end W P p [] = refl
+place-at-the-end W P p (item ∷ items) = place-at-the-end W P (afterItem W P p item) items
+
+-- no line is left open, and no page
+pub record AtEnd (p : Place) : Type 0 where
+  pub column : p .column ≡ 0
+  pub line : p .line ≡ 0
+
+page-ends : (P : ℕ) (p : Place) → p .line < P → AtEnd (afterPageEnd P p)
+unfolding afterPage
+page-ends P p h = go (held-or-empty (afterLineEnd P p .line))
+  where
+    go : (afterLineEnd P p .line ≡ 0) ⊎ (0 < afterLineEnd P p .line) → AtEnd (afterPageEnd P p)
+    go (inl e) = rw (page-end-empty P p e) (record { column = line-end-is-fresh P p h .empty; line = e })
+    go (inr l) = rw (page-end-lined P p l) (record { column = refl; line = refl })
+
+-- ---- The items, by their moves
+
+module _ (W P : ℕ) (R : List ℕ → List (List ℕ) → List Spot → Place → Type 0) (kept : Kept W P R) where
+  -- `R` holds, and the page has room for a line
+  record Held (bytes : List ℕ) (words : List (List ℕ)) (spots : List Spot) (p : Place) : Type 0 where
+    room : p .line < P
+    holds : R bytes words spots p
+
+  module _ (bytes : List ℕ) (words : List (List ℕ)) (spots : List Spot) (p : Place) (held : Held bytes words spots p) where
+    line-kept : Held (bytes ++ lineBytes P p) words spots (afterLine P p)
+    unfolding afterLine lineBytes fillsPage
+    line-kept = go (eqb (p .line + 1) P) refl (kept .line bytes words spots p (held .room) (held .holds))
+      where
+        go : (b : Bool) → eqb (p .line + 1) P ≡ b → R (bytes ++ lineMark ∷ []) words spots (lined p)
+            → Held (bytes ++ lineBytes P p) words spots (afterLine P p)
+        go true e r =
+            let h = eqb-true (p .line + 1) P e in
+            let r′ = kept .page (bytes ++ lineMark ∷ []) words spots (lined p) refl (omega arith) (omega arith) r in
+            let two : p .written + 1 + 1 ≡ p .written + 2 = omega arith in
+            rw e (record { room = omega arith; holds = rw (append-assoc, two) at r′ })
+        go false e r =
+            let h : p .line + 1 ≢ P = eqb-false (p .line + 1) P e in
+            rw e (record { room = omega arith; holds = r })
+
+    line-end-kept : Held (bytes ++ lineEndBytes P p) words spots (afterLineEnd P p)
+    unfolding afterLineEnd lineEndBytes
+    line-end-kept = go (holdsCell p) refl
+      where
+        go : (b : Bool) → holdsCell p ≡ b → Held (bytes ++ lineEndBytes P p) words spots (afterLineEnd P p)
+        go true e = rw e line-kept
+        go false e = rw (e, append-nil) held
+
+  module _ (bytes : List ℕ) (words : List (List ℕ)) (spots : List Spot) (p : Place) (held : Held bytes words spots p) where
+    empty-line-kept : Held (bytes ++ emptyLineBytes P p) words spots (afterEmptyLine P p)
+    unfolding afterEmptyLine emptyLineBytes
+    empty-line-kept = go (hasLine q) refl (line-end-kept bytes words spots p held)
+      where
+        q : Place
+        q = afterLineEnd P p
+
+        go : (b : Bool) → hasLine q ≡ b → Held (bytes ++ lineEndBytes P p) words spots q
+            → Held (bytes ++ emptyLineBytes P p) words spots (afterEmptyLine P p)
+        go true e r = rw e (rw append-assoc at (line-kept (bytes ++ lineEndBytes P p) words spots q r))
+        go false e r = rw (e, append-nil) r
+
+    page-end-kept : Held (bytes ++ pageEndBytes P p) words spots (afterPageEnd P p)
+    unfolding afterPageEnd pageEndBytes afterPage hasLine
+    page-end-kept = go (ltb 0 (q .line)) refl (line-end-kept bytes words spots p held)
+      where
+        q : Place
+        q = afterLineEnd P p
+
+        go : (b : Bool) → ltb 0 (q .line) ≡ b → Held (bytes ++ lineEndBytes P p) words spots q
+            → Held (bytes ++ pageEndBytes P p) words spots (afterPageEnd P p)
+        go true e r =
+            let h = ltb-true 0 (q .line) e in
+            let r′ = kept .page (bytes ++ lineEndBytes P p) words spots q (line-end-is-fresh P p (held .room) .empty) h (omega arith) (r .holds) in
+            rw e (record { room = omega arith; holds = rw append-assoc at r′ })
+        go false e r = rw (e, append-nil) r
+
+    paragraph-kept : Held (bytes ++ paragraphBytes P p) words spots (afterParagraph P p)
+    unfolding afterParagraph paragraphBytes
+    paragraph-kept =
+        let r = line-end-kept bytes words spots p held in
+        record { room = r .room; holds = kept .opens (bytes ++ lineEndBytes P p) words spots (afterLineEnd P p) (r .holds) }
+
+  module _ (bytes : List ℕ) (words : List (List ℕ)) (spots : List Spot) (p : Place) (held : Held bytes words spots p) (w : List ℕ)
+      (fits : WordFits W w) where
+    cells-kept : (blanks : ℕ) → p .column + blanks + length w ≤ W → let q = afterCells p blanks (length w) in
+        Held (bytes ++ cellsAfter blanks w) (words ++ w ∷ []) (spots ++ spot q ∷ []) q
+    unfolding afterCells
+    cells-kept blanks h = record { room = held .room; holds = kept .cells bytes words spots p blanks w fits h (held .holds) }
+
+    opening-kept : p .column ≡ 0 → let blanks = openingBlanks W p (length w) in let q = afterCells p blanks (length w) in
+        Held (bytes ++ cellsAfter blanks w) (words ++ w ∷ []) (spots ++ spot q ∷ []) q
+    opening-kept h =
+        let l = opening-fits W p (length w) (fits .most) in
+        cells-kept (openingBlanks W p (length w)) (omega arith)
+
+  module _ (bytes : List ℕ) (words : List (List ℕ)) (spots : List Spot) (p : Place) (held : Held bytes words spots p) (w : List ℕ)
+      (fits : WordFits W w) where
+    word-kept : let q = afterWord W P p (length w) in Held (bytes ++ wordBytes W P p w) (words ++ w ∷ []) (spots ++ spot q ∷ []) q
+    unfolding afterWord wordBytes holdsCell joins
+    word-kept = go (ltb 0 (p .column)) (leb (p .column + gapBlanks + length w) W) refl refl
+      where
+        Goal : Type 0
+        Goal = let q = afterWord W P p (length w) in Held (bytes ++ wordBytes W P p w) (words ++ w ∷ []) (spots ++ spot q ∷ []) q
+
+        go : (b c : Bool) → ltb 0 (p .column) ≡ b → leb (p .column + gapBlanks + length w) W ≡ c → Goal
+        go true true e f = rw (e, f) (cells-kept bytes words spots p held w fits gapBlanks (leb-true _ _ f))
+        go true false e f =
+            let r = line-kept bytes words spots p held in
+            let c = line-is-fresh P p (held .room) .empty in
+            rw (e, f) (rw append-assoc at (opening-kept (bytes ++ lineBytes P p) words spots (afterLine P p) r w fits c))
+        go false c e f =
+            let h = ltb-false 0 (p .column) e in
+            rw e (opening-kept bytes words spots p held w fits (omega arith))
+
+  items-held : (bytes : List ℕ) (words : List (List ℕ)) (spots : List Spot) (p : Place) (items : List Item) → Fitting W items
+      → Held bytes words spots p
+      → Held (bytes ++ itemsBytes W P p items) (words ++ wordsIn items) (spots ++ spotsFrom W P p items) (afterItems W P p items)
+  unfolding afterItem itemBytes afterItems itemsBytes wordsIn spotAfter spotsFrom
+  items-held bytes words spots p [] empty held = simp append-nil held
+  items-held bytes words spots p (word w ∷ items) (fits and rest) held =
+      let q = afterWord W P p (length w) in
+      let r = word-kept bytes words spots p held w fits in
+      simp append-assoc at (items-held (bytes ++ wordBytes W P p w) (words ++ w ∷ []) (spots ++ spot q ∷ []) q items rest r)
+  items-held bytes words spots p (lineEnd ∷ items) (fits and rest) held =
+      rw append-assoc at (items-held (bytes ++ lineEndBytes P p) words spots _ items rest (line-end-kept bytes words spots p held))
+  items-held bytes words spots p (emptyLine ∷ items) (fits and rest) held =
+      rw append-assoc at (items-held (bytes ++ emptyLineBytes P p) words spots _ items rest (empty-line-kept bytes words spots p held))
+  items-held bytes words spots p (paragraph ∷ items) (fits and rest) held =
+      rw append-assoc at (items-held (bytes ++ paragraphBytes P p) words spots _ items rest (paragraph-kept bytes words spots p held))
+  items-held bytes words spots p (pageEnd ∷ items) (fits and rest) held =
+      rw append-assoc at (items-held (bytes ++ pageEndBytes P p) words spots _ items rest (page-end-kept bytes words spots p held))
+
+  pub items-keep : (p : Place) (items : List Item) → Fitting W items → p .line < P → R [] [] [] p
+      → R (itemsBytes W P p items) (wordsIn items) (spotsFrom W P p items) (afterItems W P p items)
+  items-keep p items fits room r = items-held [] [] [] p items fits (record { room = room; holds = r }) .holds
+
+  module _ (items : List Item) (fits : Fitting W items) (room : 0 < P) (outset : R [] [] [] start) where
+    at-the-end : Held (itemsBytes W P start items) (wordsIn items) (spotsFrom W P start items) (afterItems W P start items)
+    at-the-end = items-held [] [] [] start items fits (record { room = room; holds = outset })
+
+    pub volume-keeps : R (volume W P items) (wordsIn items) (spotsFrom W P start items) (volumeEnd W P items)
+    unfolding volume volumeEnd ended
+    volume-keeps = rw (bytes-to-the-end W P start items, place-at-the-end W P start items) (page-end-kept _ _ _ _ at-the-end .holds)
+
+    pub volume-ends : AtEnd (volumeEnd W P items)
+    unfolding volumeEnd ended
+    volume-ends = rw (place-at-the-end W P start items) (page-ends P (afterItems W P start items) (at-the-end .room))

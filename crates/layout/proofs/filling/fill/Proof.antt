@@ -1,0 +1,80 @@
+-- `layout::filling::fill` meets its contract: the measured place counts the bytes, the lines and the pages of the whole.
+use borrow.Author.Needs.{needs}
+use Prim.Native.Nat.{ℕ, _+_, _≤_, _<_}
+use mathlib.Core.List.{List, _++_}
+use mathlib.Core.Path.{_≡_, refl, sym, _∙_, ap, subst}
+use native.Mathlib.Omega.{arith}
+use lib.ListN.{length, drop}
+use lib.Seq.{sets, sets-eq}
+use borrow.Author.Tests.{le-leb, lt-leb}
+use Rattle.layout.specs.Numbers.{lineMark, pageMark}
+use Rattle.layout.specs.Words.{Item, itemsOf}
+use Rattle.layout.specs.Place.{volume, volumeEnd}
+use Rattle.layout.specs.Pages.{count}
+use Rattle.layout.specs.Emboss.{roomed, done, refused}
+use Rattle.layout.specs.Fitting.{Fitting}
+use Rattle.layout.specs.Writing.{Fillable}
+use Rattle.layout.specs.declared.Place.{Place}
+use Rattle.layout.specs.declared.Answer.{Answer}
+use Rattle.layout.specs.declared.Answer.the-variants.{Done, Room}
+use Rattle.layout.proofs.Counts as Counts
+use Rattle.layout.proofs.Words.{items-fit}
+use Rattle.layout.proofs.filling.fill.Statement.{statement}
+use Rattle.layout.proofs.filling.fill.Tie as tie
+
+-- a run from the front is followed by what lies beyond it
+ends : (out bytes : List ℕ) → length bytes ≤ length out → sets out 0 bytes ≡ bytes ++ drop (length bytes) out
+ends out bytes h =
+    let k : 0 + length bytes ≡ length bytes = omega arith in
+    sets-eq bytes out 0 (omega arith) ∙ ap (λ (n : ℕ). bytes ++ drop n out) k
+
+measure-requires : tie.Need-measure-requires
+measure-requires c κs = search needs
+
+write-requires : tie.Need-write-requires
+write-requires c κs =
+    let a = c .before .before .before .before .before .args in
+    let pre = c .before .before .before .before .before .pre in
+    let items : List Item = itemsOf (a .width) (a .signs .now) in
+    let bytes : List ℕ = volume (a .width) (a .page) items in
+    let fits : Fitting (a .width) items = items-fit (pre .wide) (a .signs .now) (pre .printed) in
+    let n = ap (λ (p : Place). p .written) (c .before .before .measure .ensures) ∙ Counts.written-is-length (a .width) (a .page) items fits (pre .page) in
+    (pre .most, pre .wide, pre .narrow, omega arith)
+
+same-length : tie.Need-same-length
+same-length c = search needs
+
+returns : tie.Need-returns
+unfolding roomed done
+returns c =
+    let a = c .before .before .before .before .before .before .before .before .args in
+    let pre = c .before .before .before .before .before .before .before .before .pre in
+    let items : List Item = itemsOf (a .width) (a .signs .now) in
+    let bytes : List ℕ = volume (a .width) (a .page) items in
+    let fits : Fitting (a .width) items = items-fit (pre .wide) (a .signs .now) (pre .printed) in
+    let e = c .before .before .before .before .before .measure .ensures in
+    let n = ap (λ (p : Place). p .written) e ∙ Counts.written-is-length (a .width) (a .page) items fits (pre .page) in
+    let l = ap (λ (p : Place). p .lines) e ∙ Counts.lines-are-64s (a .width) (a .page) items fits (pre .page) in
+    let g = ap (λ (p : Place). p .pages) e ∙ Counts.pages-are-65s (a .width) (a .page) items fits (pre .page) in
+    let room : length bytes ≤ length (a .out .now) = omega arith in
+    let b = le-leb (length bytes) (length (a .out .now)) room in
+    record {
+      answered = rw (b, roomed, n, l, g);
+      written = rw (b, roomed) (c .before .before .write .ensures .page ∙ ends (a .out .now) bytes room);
+    }
+
+returns-2 : tie.Need-returns-2
+unfolding roomed refused
+returns-2 c =
+    let a = c .before .before .before .before .args in
+    let pre = c .before .before .before .before .pre in
+    let items : List Item = itemsOf (a .width) (a .signs .now) in
+    let bytes : List ℕ = volume (a .width) (a .page) items in
+    let fits : Fitting (a .width) items = items-fit (pre .wide) (a .signs .now) (pre .printed) in
+    let n = ap (λ (p : Place). p .written) (c .before .measure .ensures) ∙ Counts.written-is-length (a .width) (a .page) items fits (pre .page) in
+    let short : length (a .out .now) < length bytes = omega arith in
+    let b = lt-leb (length bytes) (length (a .out .now)) short in
+    record { answered = rw (b, roomed, n); written = rw (b, roomed) }
+
+pub fill-spec : {M : Type 1} → statement M
+fill-spec = tie.close (tie.spec measure-requires write-requires same-length returns returns-2)

@@ -1,0 +1,65 @@
+-- `layout::writing::put_blanks` meets its contract. The loop's invariant: the first j blanks are stored.
+use Prim.Native.Nat.{ℕ, zero, suc, _+_, _*_, _-_, _^_, _≤_, _<_}
+use mathlib.Core.Path.{_≡_, refl, sym, _∙_, ap, subst}
+use native.Mathlib.Omega.{arith}
+use lib.ListN.{length, getD, set, take, drop, replicate, length-set}
+use lib.Seq.{sets, length-sets, take-all}
+use Rattle.layout.specs.Writing.{Put}
+use Rattle.layout.proofs.Sets.{sets-append, run-more, blank-more}
+use mathlib.Core.List.{List}
+use Rattle.layout.proofs.writing.put_blanks.Statement.{statement}
+use Rattle.layout.proofs.writing.put_blanks.Tie as tie
+
+abbrev Inv-loop : tie.InvT-loop
+Inv-loop out₀ at blanks j₀ out j = (j ≤ blanks) × (length out ≡ length out₀) × (out ≡ sets out₀ at (replicate j 0))
+
+abbrev μ-loop : tie.MeasureT-loop
+μ-loop out₀ at blanks j₀ out j = blanks - j
+
+loop-holds : tie.Need-loop-holds Inv-loop μ-loop
+loop-holds c = (omega arith, refl, refl)
+
+add-out : tie.Need-add-out Inv-loop μ-loop
+add-out c = omega arith
+
+slice-write-out : tie.Need-slice-write-out Inv-loop μ-loop
+slice-write-out c = omega arith
+
+add-j : tie.Need-add-j Inv-loop μ-loop
+add-j c = omega arith
+
+loop-less : tie.Need-loop-less Inv-loop μ-loop
+loop-less c = omega arith
+
+loop-again : tie.Need-loop-again Inv-loop μ-loop
+loop-again c =
+    let a = c .before .before .args in
+    let l = c .before .loop in
+    let v = l .inv in
+    let s = length-set (l .out) (a .at + l .j) 0 in
+    (omega arith, s ∙ v .1, ap (λ (o : List ℕ). set o (a .at + l .j) 0) (v .2) ∙ blank-more (a .out .now) (a .at) (l .j))
+
+same-length : tie.Need-same-length Inv-loop μ-loop
+same-length c = c .before .loop .inv .1
+
+returns : tie.Need-returns Inv-loop μ-loop
+returns c =
+    let a = c .before .before .args in
+    let v = c .before .loop .inv in
+    let all : c .before .loop .j ≡ a .blanks = omega arith in
+    record { page = v .2 ∙ ap (λ (n : ℕ). sets (a .out .now) (a .at) (replicate n 0)) all }
+
+pub put-blanks-spec : {M : Type 1} → statement M
+put-blanks-spec =
+    tie.close
+    (tie.spec
+    Inv-loop
+    μ-loop
+    loop-holds
+    add-out
+    slice-write-out
+    add-j
+    loop-less
+    loop-again
+    same-length
+    returns)

@@ -1,0 +1,44 @@
+-- `layout::writing::put_line_end` meets its contract: by whether the line holds a cell.
+use borrow.Author.Needs.{needs}
+use Prim.Native.Nat.{ℕ, suc, _+_, _^_, _≤_, _<_}
+use mathlib.Core.List.{List, [], _∷_, _++_}
+use mathlib.Core.Path.{_≡_, refl, sym, _∙_, ap, subst}
+use native.Mathlib.Numerals.{add-one}
+use native.Mathlib.Omega.{arith}
+use lib.ListN.{length, set, length-set, length-append}
+use lib.Seq.{sets, length-sets}
+use Rattle.layout.specs.Place.{afterLine, lineBytes, afterLineEnd, lineEndBytes, afterEmptyLine, emptyLineBytes, afterPage, afterPageEnd, pageEndBytes, openingBlanks, afterCells, cellsAfter, afterWord, wordBytes}
+use Rattle.layout.specs.declared.Place.{Place}
+use Rattle.layout.proofs.Moves as Moves
+use Rattle.layout.proofs.Bytes as Bytes
+use Rattle.layout.proofs.Sets.{sets-append, put-then}
+use Rattle.layout.proofs.writing.put_line_end.Statement.{statement}
+use Rattle.layout.proofs.writing.put_line_end.Tie as tie
+
+put-line-requires : tie.Need-put-line-requires
+put-line-requires c κs =
+    let a = c .before .before .before .before .args in
+    let pre = c .before .before .before .before .pre in
+    rw (← (Bytes.line-end-bytes-held (a .page) (a .p) (c .before .if1 .taken))) pre
+
+same-length : tie.Need-same-length
+same-length c = search needs
+
+returns : tie.Need-returns
+returns c =
+    let a = c .before .before .before .before .before .before .before .args in
+    let held = c .before .before .before .before .if1 .taken in
+    let e = c .before .before .put-line .ensures in
+    record {
+      place = e .place ∙ sym (Moves.line-end-held (a .page) (a .p) held);
+      page = e .page ∙ ap (λ (r : List ℕ). sets (a .out .now) (a .p .written) r) (sym (Bytes.line-end-bytes-held (a .page) (a .p) held));
+    }
+
+returns-2 : tie.Need-returns-2
+returns-2 c =
+    let a = c .before .before .before .args in
+    let empty : a .p .column ≡ 0 = omega arith in
+    record { place = sym (Moves.line-end-empty (a .page) (a .p) empty); page = rw (Bytes.line-end-bytes-empty (a .page) (a .p) empty) }
+
+pub put-line-end-spec : {M : Type 1} → statement M
+put-line-end-spec = tie.close (tie.spec put-line-requires same-length returns returns-2)

@@ -1,0 +1,31 @@
+// The output of a text's signs: the place alone is moved through them first, which gives the bytes needed; only where these have room are they written.
+
+ghost use mathlib.Core.Path.{_≡_};
+ghost use Prim.Native.Nat.{ℕ, _<_, _≤_};
+ghost use lib.ListN.{length, getD};
+ghost use Rattle.translation.specs.Signs.{PrintedSign};
+ghost use Rattle.layout.specs.Words.{itemsOf};
+ghost use Rattle.layout.specs.Place.{volume};
+ghost use Rattle.layout.specs.Writing.{Filled, Fillable};
+use crate::Answer;
+use crate::measuring::measure;
+use crate::writing::write;
+
+// The answer for a text of `pieces` pieces with these signs, and the output afterwards.
+pub(crate) fn fill(signs: &[u8], pieces: usize, width: usize, page: usize, out: &mut [u8]) -> Answer
+    requires { ⌜ Fillable width page (now signs) ⌝ }
+    ensures { λ r. ⌜ Filled (volume width page (itemsOf width (now (signs .entry)))) pieces (now (out .entry)) (now (out .exit)) r ⌝ }
+{
+    let end = measure(signs, width, page);
+    let needed = end.written;
+    if needed <= out.len() {
+        write(signs, width, page, out);
+        return Answer::Done {
+            written: needed,
+            pieces: pieces,
+            lines: end.lines,
+            pages: end.pages,
+        };
+    }
+    Answer::Room(needed)
+}

@@ -1,0 +1,152 @@
+// The place on the page and its moves. A place is a value: each move takes it and hands the moved place back, and writes nothing.
+
+ghost use mathlib.Core.Path.{_≡_};
+ghost use Prim.Native.Nat.{_<_, _^_, _≤_};
+ghost use Rattle.layout.specs.Place.{start, afterLine, afterLineEnd, afterEmptyLine, afterParagraph, afterPage, afterPageEnd, openingBlanks, afterCells, afterWord};
+ghost use Rattle.layout.specs.Gather.{Modest};
+use crate::Place;
+
+impl Place {
+    // The place where a volume starts.
+    pub(crate) fn first() -> Place
+        ensures { λ r. ⌜ r ≡ start ⌝ }
+    {
+        Place {
+            column: 0,
+            line: 0,
+            opening: false,
+            written: 0,
+            lines: 0,
+            pages: 0,
+        }
+    }
+
+    // The line ends, whatever it holds; the page ends by itself after `page` lines.
+    pub(crate) fn line_done(self, page: usize) -> Place
+        requires { ⌜ Modest (2 ^ 33) self ⌝ }
+        ensures { λ r. ⌜ r ≡ afterLine page self ⌝ }
+    {
+        if self.line + 1 == page {
+            Place {
+                column: 0,
+                line: 0,
+                opening: self.opening,
+                written: self.written + 2,
+                lines: self.lines + 1,
+                pages: self.pages + 1,
+            }
+        } else {
+            Place {
+                column: 0,
+                line: self.line + 1,
+                opening: self.opening,
+                written: self.written + 1,
+                lines: self.lines + 1,
+                pages: self.pages,
+            }
+        }
+    }
+
+    // Sign 70: the line ends if it holds a cell.
+    pub(crate) fn line_end(self, page: usize) -> Place
+        requires { ⌜ Modest (2 ^ 33) self ⌝ }
+        ensures { λ r. ⌜ r ≡ afterLineEnd page self ⌝ }
+    {
+        if 0 < self.column {
+            self.line_done(page)
+        } else {
+            self
+        }
+    }
+
+    // The cells of a word of `n`, after some blanks, are on the line.
+    pub(crate) fn cells(self, blanks: usize, n: usize) -> Place
+        requires { ⌜ (Modest (2 ^ 33) self) × (blanks < 2 ^ 32) × (n < 2 ^ 32) ⌝ }
+        ensures { λ r. ⌜ r ≡ afterCells self blanks n ⌝ }
+    {
+        Place {
+            column: self.column + blanks + n,
+            line: self.line,
+            opening: false,
+            written: self.written + blanks + n,
+            lines: self.lines,
+            pages: self.pages,
+        }
+    }
+
+    // The blanks before a word of `n` cells on an empty line.
+    pub(crate) fn opening_blanks(self, width: usize, n: usize) -> usize
+        requires { ⌜ n < 2 ^ 32 ⌝ }
+        ensures { λ r. ⌜ r ≡ openingBlanks width self n ⌝ }
+    {
+        if self.opening & (2 + n <= width) {
+            2
+        } else {
+            0
+        }
+    }
+
+    // A word of `n` cells: on a line with cells it joins if it fits, otherwise the line ends and it starts the next.
+    pub(crate) fn word(self, width: usize, page: usize, n: usize) -> Place
+        requires { ⌜ (Modest (2 ^ 32) self) × (n < 2 ^ 32) ⌝ }
+        ensures { λ r. ⌜ r ≡ afterWord width page self n ⌝ }
+    {
+        if self.column == 0 {
+            return self.cells(self.opening_blanks(width, n), n);
+        }
+        if self.column + 1 + n <= width {
+            return self.cells(1, n);
+        }
+        let next = self.line_done(page);
+        next.cells(next.opening_blanks(width, n), n)
+    }
+
+    // Sign 71: as 70, then an empty line unless the page has no line yet.
+    pub(crate) fn empty_line(self, page: usize) -> Place
+        requires { ⌜ Modest (2 ^ 32) self ⌝ }
+        ensures { λ r. ⌜ r ≡ afterEmptyLine page self ⌝ }
+    {
+        let ended = self.line_end(page);
+        if 0 < ended.line {
+            ended.line_done(page)
+        } else {
+            ended
+        }
+    }
+
+    // Sign 72: as 70, and the next word opens a paragraph.
+    pub(crate) fn paragraph(self, page: usize) -> Place
+        requires { ⌜ Modest (2 ^ 32) self ⌝ }
+        ensures { λ r. ⌜ r ≡ afterParagraph page self ⌝ }
+    {
+        let ended = self.line_end(page);
+        Place {
+            column: ended.column,
+            line: ended.line,
+            opening: true,
+            written: ended.written,
+            lines: ended.lines,
+            pages: ended.pages,
+        }
+    }
+
+    // Sign 73, and the end of the text: as 70, then the page ends if it has a line.
+    pub(crate) fn page_end(self, page: usize) -> Place
+        requires { ⌜ Modest (2 ^ 32) self ⌝ }
+        ensures { λ r. ⌜ r ≡ afterPageEnd page self ⌝ }
+    {
+        let ended = self.line_end(page);
+        if 0 < ended.line {
+            Place {
+                column: 0,
+                line: 0,
+                opening: ended.opening,
+                written: ended.written + 1,
+                lines: ended.lines,
+                pages: ended.pages + 1,
+            }
+        } else {
+            ended
+        }
+    }
+}
