@@ -1,9 +1,9 @@
 -- The table of document 01's examples: its length, its distances, that it is accepted, and that its image is read as its lists. What one wrong byte
 -- of it does, and the grouping of document 01's reading. All by computing.
-use Prim.Native.Nat.{ℕ, _+_, _*_}
+use Prim.Native.Nat.{ℕ, _+_}
 use mathlib.Core.Path.{_≡_, refl}
 use mathlib.Core.List.{List, [], _∷_, map}
-use mathlib.Core.Option.{Option, none, some}
+use mathlib.Core.Option.{none, some}
 use lib.ListN.{length, set, take}
 use lib.Seq.{sets}
 use Rattle.table.specs.Cells.{cellOf}
@@ -13,7 +13,6 @@ use Rattle.table.specs.Table.{tableOf}
 use Rattle.table.specs.Grouping.{firstBreak}
 use Rattle.table.specs.Verdict.{verdictOf, verdictNumber, verdictPlace}
 use Rattle.table.specs.Example.{image, table, ascii}
-use Rattle.table.specs.declared.Verdict.{Verdict}
 use Rattle.table.specs.declared.Verdict.the-variants.{Accepted}
 
 -- all six dots, none, and the letters A, C and E of the table

@@ -14,10 +14,6 @@ use Rattle.table.specs.Records.{
   wrongByte,
   rightRecord,
   SectionName,
-  alphabet,
-  contractions,
-  contexts,
-  transitions,
   decisions,
   sectionNamed,
   ruleOf,
@@ -32,28 +28,7 @@ use Rattle.table.specs.declared.Sections.{Sections}
 use Rattle.table.proofs.Search.{first-found, first-missing}
 use Rattle.table.proofs.Tests.{tells-not}
 use Rattle.table.proofs.RightRecords.{record-right}
-
--- ---- Image order
-
--- a section stands in the list after as many as lie before it
-record Placed (a : SectionName) : Type 0 where
-  below : sectionsBefore a < length imageOrder
-  same : getD imageOrder (sectionsBefore a) alphabet ≡ a
-
-placed : (a : SectionName) → Placed a
-placed alphabet = record { below = omega arith; same = refl }
-placed contractions = record { below = omega arith; same = refl }
-placed contexts = record { below = omega arith; same = refl }
-placed transitions = record { below = omega arith; same = refl }
-placed decisions = record { below = omega arith; same = refl }
-
-place-in-order : (i : ℕ) → i < length imageOrder → sectionsBefore (getD imageOrder i alphabet) ≡ i
-place-in-order zero l = refl
-place-in-order (suc zero) l = refl
-place-in-order (suc (suc zero)) l = refl
-place-in-order (suc (suc (suc zero))) l = refl
-place-in-order (suc (suc (suc (suc zero)))) l = refl
-place-in-order (suc (suc (suc (suc (suc i))))) l = absurd (omega arith)
+use Rattle.table.proofs.SectionOrder.{named-by-number, numbered-by-name, number-below}
 
 module _ (image : List ℕ) (s : Sections) where
   -- ---- One section
@@ -106,11 +81,11 @@ module _ (image : List ℕ) (s : Sections) where
   record WrongAmong (names : List SectionName) (w : Wrong) : Type 0 where
     place : ℕ
     there : place < length names
-    found : WrongIn (getD names place alphabet) w
-    right-before : (i : ℕ) → i < place → SectionRight (getD names i alphabet)
+    found : WrongIn (getD names place decisions) w
+    right-before : (i : ℕ) → i < place → SectionRight (getD names i decisions)
 
   abbrev OfSections : List SectionName → Option Wrong → Type 0
-  OfSections names none = (i : ℕ) → i < length names → SectionRight (getD names i alphabet)
+  OfSections names none = (i : ℕ) → i < length names → SectionRight (getD names i decisions)
   OfSections names (some w) = WrongAmong names w
 
   sections-searched : (names : List SectionName) → OfSections names (firstWrongOf image s names)
@@ -118,8 +93,8 @@ module _ (image : List ℕ) (s : Sections) where
   sections-searched [] = λ i l. absurd (omega arith)
   sections-searched (name ∷ names) = go (wrongIn image s name) (section-searched name) (firstWrongOf image s names) (sections-searched names)
     where
-      right-at : SectionRight name → (n : ℕ) → ((i : ℕ) → i < n → SectionRight (getD names i alphabet))
-          → (i : ℕ) → i < suc n → SectionRight (getD (name ∷ names) i alphabet)
+      right-at : SectionRight name → (n : ℕ) → ((i : ℕ) → i < n → SectionRight (getD names i decisions))
+          → (i : ℕ) → i < suc n → SectionRight (getD (name ∷ names) i decisions)
       right-at here n later zero l = here
       right-at here n later (suc i) l = later i (omega arith)
 
@@ -142,7 +117,7 @@ module _ (image : List ℕ) (s : Sections) where
   image-searched = go (firstWrong image s) (sections-searched imageOrder)
     where
       go : (o : Option Wrong) → OfSections imageOrder o → OfImage o
-      go none right = λ name. subst SectionRight (placed name .same) (right (sectionsBefore name) (placed name .below))
+      go none right = λ name. subst SectionRight (named-by-number name) (right (sectionsBefore name) (number-below name))
       go (some w) f =
           subst (λ (name : SectionName). FirstWrong image s name (w .index)) (sym (f .found .same))
           (record {
@@ -150,8 +125,8 @@ module _ (image : List ℕ) (s : Sections) where
             wrong = f .found .wrong;
             sections-right =
                 λ a l.
-                let e = place-in-order (f .place) (f .there) in
-                subst SectionRight (placed a .same) (f .right-before (sectionsBefore a) (omega arith));
+                let e = numbered-by-name (f .place) (f .there) in
+                subst SectionRight (named-by-number a) (f .right-before (sectionsBefore a) (omega arith));
             earlier-right = f .found .earlier-right;
           })
 
@@ -180,7 +155,7 @@ module _ (image : List ℕ) (s : Sections) where
           let x = no-earlier-section f g in
           let y = no-earlier-section g f in
           let e : sectionsBefore a ≡ sectionsBefore b = omega arith in
-          sym (placed a .same) ∙ ap (λ (i : ℕ). getD imageOrder i alphabet) e ∙ placed b .same
+          sym (named-by-number a) ∙ ap (λ (i : ℕ). getD imageOrder i decisions) e ∙ named-by-number b
 
       other : FirstWrong image s a k
       other = subst (λ (c : SectionName). FirstWrong image s c k) (sym same-section) g

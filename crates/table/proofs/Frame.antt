@@ -1,15 +1,17 @@
 -- The test of the frame passes just where the frame is right in the paper's words. The idea: a record has at least one byte, so where a section holds
 -- whole records their number is the section's length divided by the size of one, which is what the test takes for it.
 use Prim.Native.Nat.{ℕ, zero, suc, _+_, _-_, _*_, _/_, _≤_, _<_}
-use mathlib.Core.Bool.{true}
+use mathlib.Core.Bool.{Bool, true, false, _&&_}
 use mathlib.Core.List.{List}
 use mathlib.Core.Logic.{_↔_, Iff·trans}
-use mathlib.Core.Path.{_≡_, refl, sym, _∙_}
+use mathlib.Core.Path.{_≡_, refl, sym, _∙_, ap}
 use native.Mathlib.Nat.{div-eq-of-eq-mul-right}
 use native.Mathlib.Omega.{arith}
 use lib.Dec.{leb}
 use lib.ListN.{length}
+use borrow.Author.Tests.{le-leb, lt-leb}
 use Rattle.table.specs.Numbers.{
+  trailerSize,
   firstMarkByte,
   secondMarkByte,
   firstMark,
@@ -43,9 +45,12 @@ use Rattle.table.specs.Sections.{
   wholeRecords,
   lengthsRight,
   frameRight,
+  noSections,
+  sectionsOf,
 }
 use Rattle.table.specs.Refusals.{Between, WholeRecords, FrameRight}
 use Rattle.table.specs.declared.Section.{Section}
+use Rattle.table.specs.declared.Sections.{Sections}
 use Rattle.table.proofs.Tests.{Tells, tells-and, tells-and-then, tells-le, tells-eq, tells-within}
 
 tells-whole : (s : Section) (bytes least most : ℕ) → 0 < s .size → s .records ≡ bytes / s .size
@@ -60,7 +65,7 @@ tells-whole s bytes least most filled counted =
     )
 
 module _ (image : List ℕ) where
-  tells-trailer :
+  pub tells-trailer :
       Tells (trailerRight image)
       ((((byteAt image (trailerAt image + firstMarkByte) ≡ firstMark) × (byteAt image (trailerAt image + secondMarkByte) ≡ secondMark))
       × Between leastClasses mostClasses (classesIn image))
@@ -69,10 +74,10 @@ module _ (image : List ℕ) where
   tells-trailer =
       tells-and (tells-and (tells-and (tells-eq _ _) (tells-eq _ _)) (tells-within _ _ (classesIn image))) (tells-le (variablesIn image) _)
 
-  abbrev NeverRise : Type 0
+  abbrev pub NeverRise : Type 0
   NeverRise = (k : ℕ) → k < 4 → distance image (k + 1) ≤ distance image k
 
-  tells-distances : Tells (distancesRight image) ((distance image 0 ≡ trailerAt image) × NeverRise)
+  pub tells-distances : Tells (distancesRight image) ((distance image 0 ≡ trailerAt image) × NeverRise)
   unfolding distancesRight
   tells-distances =
       Iff·trans
@@ -136,3 +141,49 @@ module _ (image : List ℕ) where
           ((((f .alphabet-whole, f .contractions-whole), f .contexts-whole), f .transitions-whole), f .decisions-whole),
         ),
       )
+
+  -- ---- The sections of any image go by the frame's tests
+
+  pub sections-framed : frameRight image ≡ true → sectionsOf image ≡ sectionsIn image
+  unfolding sectionsOf
+  sections-framed e = ap (λ (b : Bool). elim b [ true ↦ sectionsIn image | false ↦ noSections ]) e
+
+  pub sections-unframed : frameRight image ≡ false → sectionsOf image ≡ noSections
+  unfolding sectionsOf
+  sections-unframed e = ap (λ (b : Bool). elim b [ true ↦ sectionsIn image | false ↦ noSections ]) e
+
+  pub frame-short : length image < trailerSize → frameRight image ≡ false
+  unfolding frameRight
+  frame-short l = ap (λ (b : Bool). b && trailerRight image && distancesRight image && lengthsRight image (sectionsIn image)) (lt-leb _ _ l)
+
+  pub frame-long : trailerSize ≤ length image → frameRight image ≡ (trailerRight image && distancesRight image && lengthsRight image (sectionsIn image))
+  unfolding frameRight
+  frame-long l = ap (λ (b : Bool). b && trailerRight image && distancesRight image && lengthsRight image (sectionsIn image)) (le-leb _ _ l)
+
+  -- a caller sees by the number of classes whether the frame is right
+  pub no-class-unframed : sectionsOf image .classes ≡ 0 → frameRight image ≡ false
+  unfolding sectionsIn
+  no-class-unframed none = go (frameRight image) refl
+    where
+      go : (b : Bool) → frameRight image ≡ b → frameRight image ≡ false
+      go true e =
+          let c = frame-right .0 e .classes-right in
+          let z = ap (λ (s : Sections). s .classes) (sections-framed e) in
+          absurd (omega arith)
+      go false e = e
+
+  pub class-framed : (sectionsOf image .classes ≡ 0 → ⊥) → frameRight image ≡ true
+  class-framed some-class = go (frameRight image) refl
+    where
+      go : (b : Bool) → frameRight image ≡ b → frameRight image ≡ true
+      go true e = e
+      go false e = absurd (some-class (ap (λ (s : Sections). s .classes) (sections-unframed e)))
+
+  -- the trailer's two numbers, where the frame is right
+  pub framed-classes : frameRight image ≡ true → Between leastClasses mostClasses (sectionsOf image .classes)
+  unfolding sectionsIn
+  framed-classes e = rw (sections-framed e) (frame-right .0 e .classes-right)
+
+  pub framed-variables : frameRight image ≡ true → sectionsOf image .variables ≤ mostVariables
+  unfolding sectionsIn
+  framed-variables e = rw (sections-framed e) (frame-right .0 e .variables-right)

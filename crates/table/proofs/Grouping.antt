@@ -4,17 +4,16 @@
 use Prim.Native.Nat.{ℕ, zero, suc, pred, _≤_, _<_}
 use mathlib.Core.Bool.{Bool, true, false}
 use mathlib.Core.List.{List, [], _∷_}
-use mathlib.Core.Logic.{_↔_}
 use mathlib.Core.Option.{Option, none, some}
 use mathlib.Core.Path.{_≡_, refl, sym, _∙_, ap, subst}
 use native.Mathlib.Decide.{decLe, decLt}
 use native.Mathlib.Omega.{arith}
 use lib.Dec.{ltb, eqb}
-use lib.ListN.{length, getD, take}
-use borrow.Author.Tests.{ltb-true, ltb-false, eqb-true, eqb-false, lt-ltb, le-ltb}
-use Rattle.table.specs.Search.{firstFrom, first, isThere}
+use lib.ListN.{length, take}
+use borrow.Author.Tests.{ltb-true, ltb-false, eqb-true, eqb-false}
+use Rattle.table.specs.Search.{first, isThere}
 use Rattle.table.specs.Grouping.{Agree, stringOf, Violated, Breaks, Grouped, FirstToBreak, agreement, breaksAt, firstBreak}
-use Rattle.table.proofs.Search.{FirstOf, first-found, first-missing, first-is, first-is-not}
+use Rattle.table.proofs.Search.{first-found, first-missing}
 
 -- ---- Agreement
 
@@ -63,7 +62,7 @@ module _ (strings : List (List ℕ)) where
   abbrev at : ℕ → List ℕ
   at k = stringOf strings k
 
-  abbrev agreed : ℕ → ℕ → ℕ
+  abbrev pub agreed : ℕ → ℕ → ℕ
   agreed a b = agreement (at a) (at b)
 
   abbrev outdoes : ℕ → ℕ → Bool
@@ -139,7 +138,7 @@ module _ (strings : List (List ℕ)) where
           v .differ (subst (λ (k : ℕ). Agree (v .p) (at q) (at k)) e here)
 
   -- where the test passes no record below n, none of them breaks the grouping
-  none-breaks : (n : ℕ) → ((k : ℕ) → k < n → breaksAt strings k ≡ false) → (k : ℕ) → k < n → Breaks strings k → ⊥
+  pub none-breaks : (n : ℕ) → ((k : ℕ) → k < n → breaksAt strings k ≡ false) → (k : ℕ) → k < n → Breaks strings k → ⊥
   none-breaks zero h k l b = omega arith
   none-breaks (suc n) h k l b = go (none-breaks n (λ j m. h j (omega arith))) (decLt k n)
     where

@@ -3,9 +3,15 @@ pub mod Lists
 pub mod Tests
 pub mod Frame
 pub mod RightRecords
+pub mod RuleTests
+pub mod SectionOrder
 pub mod FirstWrong
+pub mod LetterNumbers
 pub mod Grouping
+pub mod GroupLaws
+pub mod VerdictSteps
 pub mod Refusals
 pub mod Example
 pub mod Product
 pub mod Promises
+pub mod Distances

@@ -2,11 +2,26 @@
 use Prim.Native.Nat.{ℕ}
 use mathlib.Core.List.{List}
 use mathlib.Core.Path.{_≡_, sym, _∙_}
-use Rattle.table.specs.Promises.{RecordByte, RecordPart}
+use Rattle.table.specs.Promises.{Located, RecordByte, RecordPart, Checked, FaultNumber, FaultPlace}
 use Rattle.table.specs.declared.Section.{Section}
+use Rattle.table.specs.declared.Sections.{Sections}
+use Rattle.table.specs.declared.Fault.{Fault}
+use Rattle.table.specs.declared.Verdict.{Verdict}
+
+pub locate-determined : {image : List ℕ} {a b : Sections} → Located image a → Located image b → a ≡ b
+locate-determined p q = p .is ∙ sym (q .is)
 
 pub record-byte-determined : {image : List ℕ} {s : Section} {k j a b : ℕ} → RecordByte image s k j a → RecordByte image s k j b → a ≡ b
 record-byte-determined p q = p .is ∙ sym (q .is)
 
 pub record-part-determined : {image : List ℕ} {s : Section} {k j n : ℕ} {a b : List ℕ} → RecordPart image s k j n a → RecordPart image s k j n b → a ≡ b
 record-part-determined p q = p .is ∙ sym (q .is)
+
+pub check-determined : {image : List ℕ} {a b : Verdict} → Checked image a → Checked image b → a ≡ b
+check-determined p q = p .is ∙ sym (q .is)
+
+pub fault-number-determined : {fault : Fault} {a b : ℕ} → FaultNumber fault a → FaultNumber fault b → a ≡ b
+fault-number-determined p q = p .is ∙ sym (q .is)
+
+pub fault-place-determined : {fault : Fault} {a b : ℕ} → FaultPlace fault a → FaultPlace fault b → a ≡ b
+fault-place-determined p q = p .is ∙ sym (q .is)

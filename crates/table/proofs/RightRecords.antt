@@ -241,7 +241,7 @@ module _ (image : List ℕ) (s : Sections) where
         λ h. record { at = h .letter; there = rw length-symbols (h .there); same = symbols-at (h .letter) (h .there) ∙ h .symbol },
       )
 
-  tells-earlier : (k c : ℕ) → k < s .alphabet .records
+  pub tells-earlier : (k c : ℕ) → k < s .alphabet .records
       → Tells (member c (take k (symbols image s))) ((j : ℕ) × (j < k) × (symbolOf image s j ≡ c))
   tells-earlier k c l =
       Iff·trans (member-law c (take k (symbols image s))) (

@@ -2,10 +2,12 @@
 use Prim.Native.Nat.{ℕ, zero, suc, _+_, _≤_, _<_}
 use mathlib.Core.Bool.{Bool, true, false}
 use mathlib.Core.Option.{Option, none, some}
-use mathlib.Core.Path.{_≡_, refl, sym, _∙_, ap, subst}
+use mathlib.Core.Path.{_≡_, refl, _∙_, ap, subst}
 use native.Mathlib.Decide.{ℕ-discrete, decLt}
 use native.Mathlib.Omega.{arith}
 use Rattle.table.specs.Search.{firstFrom}
+use Rattle.table.specs.Found.{found}
+use Rattle.table.specs.declared.Found.the-variants.{At, Nothing}
 
 -- `k` is the first of the `n` numbers from `i` on that passes
 pub record FirstOf (test : ℕ → Bool) (i n k : ℕ) : Type 0 where
@@ -82,3 +84,33 @@ module _ (test : ℕ → Bool) where
       go : (o : Option ℕ) → firstFrom test i n ≡ o → firstFrom test i n ≡ none
       go none e = e
       go (some m) e = let f = first-found i n m e in absurd (clash (f .passes) (h m (f .low) (f .high)))
+
+  -- ---- One number more
+
+  pub first-kept : (n k : ℕ) → firstFrom test 0 n ≡ some k → firstFrom test 0 (n + 1) ≡ some k
+  first-kept n k e =
+      let f = first-found 0 n k e in
+      first-is 0 (n + 1) k (record { low = f .low; high = omega arith; passes = f .passes; earlier = f .earlier })
+
+  pub first-last : (n : ℕ) → firstFrom test 0 n ≡ none → test n ≡ true → firstFrom test 0 (n + 1) ≡ some n
+  first-last n e t =
+      first-is 0 (n + 1) n (record { low = omega arith; high = omega arith; passes = t; earlier = λ j l u. first-missing 0 n e j l (omega arith) })
+
+  pub first-none-more : (n : ℕ) → firstFrom test 0 n ≡ none → test n ≡ false → firstFrom test 0 (n + 1) ≡ none
+  first-none-more n e t =
+      let before = first-missing 0 n e in
+      first-is-not 0 (n + 1) (λ j l u. go j (decLt j n) (λ v. before j l (omega arith)) u)
+    where
+      go : (j : ℕ) → Dec (j < n) → (j < n → test j ≡ false) → j < 0 + (n + 1) → test j ≡ false
+      go j (yes v) earlier u = earlier v
+      go j (no d) earlier u = subst (λ (x : ℕ). test x ≡ false) (omega arith) t
+
+-- ---- What the code answers tells what the search finds
+
+pub found-at : (o : Option ℕ) (k : ℕ) → found o ≡ At k → o ≡ some k
+found-at none k e = let z : _≡_ {A = ℕ} 0 1 = cc in absurd (omega arith)
+found-at (some j) k e = cc
+
+pub found-nothing : (o : Option ℕ) → found o ≡ Nothing → o ≡ none
+found-nothing none e = refl
+found-nothing (some j) e = let z : _≡_ {A = ℕ} 0 1 = cc in absurd (omega arith)

@@ -33,6 +33,11 @@ module _ {test : Bool} {Fact : Type 0} (tells : Tells test Fact) where
       go true e h = absurd (h (tells .0 e))
       go false e h = e
 
+-- two tests that tell the same fact are the same
+pub same-tests : {a b : Bool} {Fact : Type 0} → Tells a Fact → Tells b Fact → a ≡ b
+same-tests {a = true} p q = sym (q .1 (p .0 refl))
+same-tests {a = false} p q = sym (fails-law q .1 (λ h. false≢true (p .1 h)))
+
 -- ---- Joined tests
 
 -- the second test need tell its fact only where the first holds
@@ -42,6 +47,9 @@ tells-and-then {a = false} p q = (λ e. absurd (false≢true e), λ h. absurd (f
 
 pub tells-and : {a b : Bool} {P Q : Type 0} → Tells a P → Tells b Q → Tells (a && b) (P × Q)
 tells-and p q = tells-and-then p (λ _. q)
+
+pub both : (a b : Bool) → (a && b) ≡ true → (a ≡ true) × (b ≡ true)
+both a b = tells-and (λ e. e, λ e. e) (λ e. e, λ e. e) .0
 
 pub tells-or : {a b : Bool} {P Q : Type 0} → Tells a P → Tells b Q → Tells (a || b) (P ⊎ Q)
 tells-or {a = true} p q = (λ e. inl (p .0 refl), λ _. refl)
@@ -81,3 +89,10 @@ every-law test n = go (first (λ k. not (test k)) n) refl
     go (some k) e =
         let f = first-found (λ k. not (test k)) 0 n k e in
         (λ t. absurd (false≢true t), λ h. absurd (true≢false (sym (h k (omega arith)) ∙ not-true _ (f .passes))))
+
+pub every-fails : (test : ℕ → Bool) (n k : ℕ) → k < n → test k ≡ false → every test n ≡ false
+every-fails test n k l e = fails-law (every-law test n) .1 (λ h. true≢false (sym (h k l) ∙ e))
+
+pub every-same : (f g : ℕ → Bool) (n : ℕ) → ((k : ℕ) → k < n → f k ≡ g k) → every f n ≡ every g n
+every-same f g n same =
+    same-tests (every-law f n) (Iff·trans (every-law g n) (λ h k l. same k l ∙ h k l, λ h k l. sym (same k l) ∙ h k l))

@@ -6,7 +6,9 @@ pub mod Records
 pub mod Table
 pub mod Grouping
 pub mod Verdict
+pub mod Found
 pub mod Refusals
+pub mod Judging
 pub mod Example
 pub mod Computing
 pub mod Promises

@@ -6,8 +6,16 @@ use mathlib.Core.List.{List, []}
 use mathlib.Core.Path.{_≡_}
 use lib.Dec.{leb}
 use lib.ListN.{length}
-use Rattle.table.specs.Sections.{offset, recordByte, recordPart}
+use Rattle.table.specs.Sections.{sectionsOf, offset, recordByte, recordPart}
+use Rattle.table.specs.Verdict.{faultNumber, faultPlace, verdictOf}
 use Rattle.table.specs.declared.Section.{Section}
+use Rattle.table.specs.declared.Sections.{Sections}
+use Rattle.table.specs.declared.Fault.{Fault}
+use Rattle.table.specs.declared.Verdict.{Verdict}
+
+-- `locate`: the sections, or none where the frame is wrong
+pub record Located (image : List ℕ) (answer : Sections) : Type 0 where
+  pub is : answer ≡ sectionsOf image
 
 -- `record_byte`: the byte, or 0 outside the image
 pub record RecordByte (image : List ℕ) (s : Section) (k j answer : ℕ) : Type 0 where
@@ -20,3 +28,14 @@ partWithin image s k j n = cond (leb (offset s k + j + n) (length image)) (recor
 -- `record_part`
 pub record RecordPart (image : List ℕ) (s : Section) (k j n : ℕ) (answer : List ℕ) : Type 0 where
   pub is : answer ≡ partWithin image s k j n
+
+-- `check`: the verdict of the definitions
+pub record Checked (image : List ℕ) (answer : Verdict) : Type 0 where
+  pub is : answer ≡ verdictOf image
+
+-- `fault_number` and `fault_place`: the paper's
+pub record FaultNumber (fault : Fault) (answer : ℕ) : Type 0 where
+  pub is : answer ≡ faultNumber fault
+
+pub record FaultPlace (fault : Fault) (answer : ℕ) : Type 0 where
+  pub is : answer ≡ faultPlace fault

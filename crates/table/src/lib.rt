@@ -1,8 +1,16 @@
 // A contraction table's stored image: where its five sections lie, what is wrong with it, if anything, and its records, read where they lie.
 // No function has to be asked with care: each answers for every image and every index. What each answer means is said in specs/.
 
+mod framing;
+mod groups;
+mod judge;
 mod read;
+mod records;
 
+pub use framing::locate;
+pub use judge::check;
+pub use judge::fault_number;
+pub use judge::fault_place;
 pub use read::record_byte;
 pub use read::record_part;
 
@@ -36,4 +44,10 @@ pub enum Fault {
 pub enum Verdict {
     Accepted,
     Refused(Fault),
+}
+
+// What a search for a record answers: its number in the section.
+pub(crate) enum Found {
+    At(u16),
+    Nothing,
 }

@@ -1,9 +1,9 @@
 -- `table::read::record_byte` meets its contract: within the image the byte is read, and outside it `getD` is its default, 0.
 use borrow.Author.Needs.{needs}
-use mathlib.Core.Path.{refl, sym}
+use mathlib.Core.Path.{sym}
 use native.Mathlib.Omega.{arith}
-use lib.ListN.{getD, List·getD-eq-default}
-use Rattle.table.specs.Sections.{recordByte, byteAt, offset}
+use lib.ListN.{List·getD-eq-default}
+use Rattle.table.specs.Sections.{recordByte, byteAt}
 use Rattle.table.proofs.read.record_byte.Statement.{statement}
 use Rattle.table.proofs.read.record_byte.Tie as tie
 

@@ -1,0 +1,81 @@
+-- `table::records::bytes_right` meets its contract. The loop's invariant: the bytes passed are all of the kind.
+use borrow.Author.Count.{below-more}
+use borrow.Author.Needs.{needs}
+use borrow.Author.Tests.{not-true, not-false}
+use Prim.Native.Nat.{ℕ, _+_, _-_, _≤_, _<_}
+use mathlib.Core.Bool.{Bool, true}
+use mathlib.Core.Path.{_≡_, sym, _∙_}
+use native.Mathlib.Omega.{arith}
+use Rattle.table.specs.Sections.{recordByte}
+use Rattle.table.specs.Judging.{rightByte}
+use Rattle.table.proofs.Tests.{every-law, every-fails}
+use mathlib.Core.List.{List}
+use Rattle.table.specs.declared.Section.{Section}
+use Rattle.table.specs.declared.records.Kind.{Kind}
+use Rattle.table.proofs.records.bytes_right.Statement.{statement}
+use Rattle.table.proofs.records.bytes_right.Tie as tie
+
+-- the test of byte `i`
+abbrev passes : List ℕ → Section → ℕ → ℕ → Kind → ℕ → Bool
+passes image s k from kind i = rightByte kind (recordByte image s k (from + i))
+
+abbrev Inv-loop : tie.InvT-loop
+Inv-loop image s k from n kind j₀ j = (j ≤ n) × ((i : ℕ) → i < j → passes image s k from kind i ≡ true)
+
+abbrev μ-loop : tie.MeasureT-loop
+μ-loop image s k from n kind j₀ j = n - j
+
+loop-holds : tie.Need-loop-holds Inv-loop μ-loop
+loop-holds c = (omega arith, λ i l. absurd (omega arith))
+
+add-record-byte : tie.Need-add-record-byte Inv-loop μ-loop
+add-record-byte c = omega arith
+
+record-byte-requires : tie.Need-record-byte-requires Inv-loop μ-loop
+record-byte-requires c κs = search needs
+
+byte-right-requires : tie.Need-byte-right-requires Inv-loop μ-loop
+byte-right-requires c κs = search needs
+
+-- the byte that was read is judged by that test
+judged : (c : tie.After-byte-right Inv-loop μ-loop)
+    → (let a = c .before .before .before .before .before .args in passes (a .image .now) (a .s) (a .k) (a .from) (a .kind) (c .before .before .before .loop .j))
+    ≡ c .byte-right .result
+judged c = rw (← c .before .record-byte .ensures .is) (sym (c .byte-right .ensures))
+
+returns : tie.Need-returns Inv-loop μ-loop
+returns c =
+    let a = c .before .before .before .before .before .before .args in
+    sym
+    (every-fails (passes (a .image .now) (a .s) (a .k) (a .from) (a .kind)) (a .n) (c .before .before .before .before .loop .j)
+    (omega arith) (judged (c .before) ∙ not-true _ (c .if1 .taken)))
+
+add-j : tie.Need-add-j Inv-loop μ-loop
+add-j c = omega arith
+
+loop-less : tie.Need-loop-less Inv-loop μ-loop
+loop-less c = omega arith
+
+loop-again : tie.Need-loop-again Inv-loop μ-loop
+loop-again c = (omega arith, below-more _ _ (c .before .before .before .before .loop .inv .1) (judged (c .before) ∙ not-false _ (c .if1 .left)))
+
+returns-2 : tie.Need-returns-2 Inv-loop μ-loop
+returns-2 c =
+    let a = c .before .before .before .args in
+    sym (every-law (passes (a .image .now) (a .s) (a .k) (a .from) (a .kind)) (a .n) .1 (λ i l. c .before .loop .inv .1 i (omega arith)))
+
+pub bytes-right-spec : {M : Type 1} → statement M
+bytes-right-spec =
+    tie.close
+    (tie.spec
+    Inv-loop
+    μ-loop
+    loop-holds
+    add-record-byte
+    record-byte-requires
+    byte-right-requires
+    returns
+    add-j
+    loop-less
+    loop-again
+    returns-2)

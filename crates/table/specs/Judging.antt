@@ -1,0 +1,68 @@
+-- What the code that judges records speaks of: the letters by their symbols, the kinds of bytes, the sections by their number in image order. No heading of
+-- document 01.
+use Prim.Native.Nat.{ℕ, _+_, _<_}
+use mathlib.Core.Bool.{Bool, cond, not}
+use mathlib.Core.List.{List}
+use mathlib.Core.Option.{Option, none, some}
+use mathlib.Core.Path.{_≡_}
+use lib.Dec.{ltb, eqb}
+use lib.ListN.{length, getD}
+use Rattle.table.specs.Numbers.{symbolByte, padding, leastClass}
+use Rattle.table.specs.Search.{within, first}
+use Rattle.table.specs.Sections.{recordByte}
+use Rattle.table.specs.Records.{rightTransition, rightCondition, rightDecision, rightRecord, SectionName, decisions, ruleOf, imageOrder, Wrong}
+use Rattle.table.specs.Refusals.{sectionsBefore}
+use Rattle.table.specs.declared.Section.{Section}
+use Rattle.table.specs.declared.Sections.{Sections}
+use Rattle.table.specs.declared.records.Kind.{Kind}
+use Rattle.table.specs.declared.records.Kind.the-variants.{Class, Transition, Decision, Condition}
+use Rattle.table.specs.declared.records.WrongRecord.{WrongRecord}
+use Rattle.table.specs.declared.records.WrongRecord.the-variants.{At, AllRight}
+
+-- ---- The letters by their symbols
+
+-- counted from 1, and 0 for none
+abbrev pub numberOf : Option ℕ → ℕ
+numberOf none = 0
+numberOf (some k) = k + 1
+
+-- the number of the first of `n` alphabet records that has this symbol
+unfoldable pub letterNumber : List ℕ → Section → ℕ → ℕ → ℕ
+letterNumber image alphabet c n = numberOf (first (λ k. eqb (recordByte image alphabet k symbolByte) c) n)
+
+-- for each byte the number of its letter among the first `n`
+pub record Gathered (image : List ℕ) (alphabet : Section) (n : ℕ) (letters : List ℕ) : Type 0 where
+  pub size : length letters ≡ 256
+  pub numbers : (c : ℕ) → c < 256 → getD letters c 0 ≡ letterNumber image alphabet c n
+
+-- and among all of them
+abbrev pub LettersBySymbol : List ℕ → Section → List ℕ → Type 0
+LettersBySymbol image alphabet letters = Gathered image alphabet (alphabet .records) letters
+
+-- of ten string bytes, those below the length have a letter, and the others are 0
+unfoldable pub rightCharacter : List ℕ → ℕ → ℕ → ℕ → Bool
+rightCharacter letters len i c = cond (ltb i len) (not (eqb (getD letters c 0) 0)) (eqb c padding)
+
+-- ---- Bytes of one kind
+
+abbrev pub rightByte : Kind → ℕ → Bool
+rightByte (Class classes) b = within leastClass classes b
+rightByte Transition b = rightTransition b
+rightByte Decision b = rightDecision b
+rightByte Condition b = rightCondition b
+
+-- ---- Sections by their number in image order
+
+abbrev pub nameAt : ℕ → SectionName
+nameAt i = getD imageOrder i decisions
+
+abbrev pub rightAt : List ℕ → Sections → ℕ → ℕ → Bool
+rightAt image s i k = rightRecord (ruleOf image s (nameAt i) k)
+
+-- record `k` of section `i` is wrong
+abbrev pub wrongAt : List ℕ → Sections → ℕ → ℕ → Bool
+wrongAt image s i k = not (rightAt image s i k)
+
+abbrev pub foundWrong : Option Wrong → WrongRecord
+foundWrong none = AllRight
+foundWrong (some w) = At (sectionsBefore (w .section)) (w .index)

@@ -1,0 +1,71 @@
+// The verdict on an image: the frame, the records, the blank and the grouping, in this order, and the paper's number and place of each refusal.
+
+ghost use mathlib.Core.Path.{_≡_};
+ghost use Prim.Native.Nat.{_+_, _<_};
+ghost use Rattle.table.specs.Verdict.{recordsVerdict};
+ghost use Rattle.table.specs.Promises.{Checked, FaultNumber, FaultPlace};
+use crate::Fault;
+use crate::Found;
+use crate::Sections;
+use crate::Verdict;
+use crate::framing::locate;
+use crate::groups::first_break;
+use crate::read::offset_of;
+use crate::records::WrongRecord;
+use crate::records::first_wrong;
+use crate::records::letters_by_symbol;
+use crate::records::section_at;
+
+// The verdict on an image whose frame is right.
+fn judged(image: &[u8], s: Sections) -> Verdict
+    requires { ⌜ s .classes + s .variables < 65536 ⌝ }
+    ensures { λ r. ⌜ r ≡ recordsVerdict (now (image .entry)) s ⌝ }
+{
+    let letters = letters_by_symbol(image, s);
+    if let WrongRecord::At(i, k) = first_wrong(image, s, &letters) {
+        return Verdict::Refused(Fault::Record(offset_of(section_at(s, i), k)));
+    }
+    if letters[32] == 0 {
+        return Verdict::Refused(Fault::NoBlank);
+    }
+    let contractions = s.contractions;
+    match first_break(image, s) {
+        Found::At(r) => Verdict::Refused(Fault::Grouping(offset_of(contractions, r))),
+        Found::Nothing => Verdict::Accepted,
+    }
+}
+
+// The verdict on any image: accepted, or the first thing that is wrong with it, and where.
+pub fn check(image: &[u8]) -> Verdict
+    ensures { λ r. ⌜ Checked (now (image .entry)) r ⌝ }
+{
+    let s = locate(image);
+    if s.classes == 0 {
+        return Verdict::Refused(Fault::Frame);
+    }
+    judged(image, s)
+}
+
+// The paper's number of a refusal.
+pub fn fault_number(f: Fault) -> u8
+    ensures { λ r. ⌜ FaultNumber f r ⌝ }
+{
+    match f {
+        Fault::Frame => 1,
+        Fault::Record(_) => 2,
+        Fault::NoBlank => 3,
+        Fault::Grouping(_) => 4,
+    }
+}
+
+// The paper's place of a refusal.
+pub fn fault_place(f: Fault) -> usize
+    ensures { λ r. ⌜ FaultPlace f r ⌝ }
+{
+    match f {
+        Fault::Frame => 0,
+        Fault::Record(at) => at,
+        Fault::NoBlank => 0,
+        Fault::Grouping(at) => at,
+    }
+}
