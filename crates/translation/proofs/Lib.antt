@@ -1,5 +1,12 @@
 pub mod Example
 pub mod Lists
+pub mod Loops
+pub mod Records
+pub mod Entries
+pub mod Moving
+pub mod Rests
+pub mod Writing
+pub mod Thinned
 pub mod Admissible
 pub mod Pieces
 pub mod Chosen
@@ -8,4 +15,7 @@ pub mod States
 pub mod Refusals
 pub mod Collapse
 pub mod Signs
+pub mod Printing
+pub mod Fronts
+pub mod Cursor
 pub mod Accepted

@@ -44,7 +44,7 @@ all-printed (all-cons {x = g} {xs = signs} r rs) = go (eqb g noCell) refl (all-p
     go true e ps = ps
     go false e ps = all-cons (one-printed g r (eqb-false g noCell e)) ps
 
-printed-at-most : (signs : List ℕ) → length (printed signs) ≤ length signs
+pub printed-at-most : (signs : List ℕ) → length (printed signs) ≤ length signs
 unfolding printed
 printed-at-most [] = omega arith
 printed-at-most (g ∷ signs) = go (eqb g noCell) (printed-at-most signs)

@@ -4,6 +4,10 @@ pub mod Letters
 pub mod Decide
 pub mod Choose
 pub mod Pieces
+pub mod Found
+pub mod Opened
+pub mod States
+pub mod Inside
 pub mod Computing
 pub mod Refusals
 pub mod Signs

@@ -1,0 +1,99 @@
+-- An entry of an opened image, read where it lies: its string and its signs are whole, and its right context holds just where the bytes say so.
+use Prim.Native.Nat.{ℕ, pred, _+_, _-_, _≤_, _<_}
+use mathlib.Core.Bool.{Bool, true, false, _&&_, _||_}
+use mathlib.Core.List.{List, []}
+use mathlib.Core.Logic.{_≢_, _⊎_, inl, inr}
+use mathlib.Core.Path.{_≡_, refl, sym, _∙_, ap}
+use native.Mathlib.Numerals.{sub-one}
+use native.Mathlib.Omega.{arith}
+use lib.Dec.{eqb}
+use lib.ListN.{length, getD}
+use borrow.Author.Tests.{eq-eqb, ne-eqb}
+use Rattle.table.specs.Numbers.{lengthByte, stringByte, contextByte, shiftByte, signsByte, entrySigns, leastLength, mostLength, leastShift, noContext, contextSize}
+use Rattle.table.specs.Search.{member}
+use Rattle.table.specs.Sections.{offset, recordByte, recordPart}
+use Rattle.table.specs.Promises.{partWithin}
+use Rattle.table.specs.Refusals.{Between, ContextExists, RightEntry}
+use Rattle.table.specs.Table.{tableIn, entryAt, contextAt}
+use Rattle.table.specs.declared.Sections.{Sections}
+use Rattle.translation.specs.Decide.{States, decided}
+use Rattle.translation.specs.Choose.{begins, classAfter, contextHolds, admissible, entry}
+use Rattle.translation.specs.Opened.{Opened}
+use Rattle.translation.specs.declared.Setting.{Setting}
+use Rattle.translation.proofs.Records.{part-long, part-within, entry-at, context-at}
+
+module _ (image : List ℕ) (s : Sections) (opened : Opened image s) (k : ℕ) (there : k < s .contractions .records) where
+  abbrev byte : ℕ → ℕ
+  byte j = recordByte image (s .contractions) k j
+
+  right : RightEntry image s k
+  right = opened .entries-right k there
+
+  string-inside : offset (s .contractions) k + stringByte + byte lengthByte ≤ length image
+  string-inside = let lies = opened .contractions-lie k there in let most = right .length-right .high in omega arith
+
+  pub string-long : length (entryAt image s k .string) ≡ byte lengthByte
+  unfolding entryAt
+  string-long = part-long image (s .contractions) k stringByte (byte lengthByte) string-inside
+
+  pub signs-long : length (entryAt image s k .signs) ≡ entrySigns
+  unfolding entryAt
+  signs-long =
+      part-long image (s .contractions) k signsByte entrySigns (let lies = opened .contractions-lie k there in omega arith)
+
+  pub signs-read : partWithin image (s .contractions) k signsByte entrySigns ≡ entryAt image s k .signs
+  unfolding entryAt
+  signs-read =
+      part-within image (s .contractions) k signsByte entrySigns (let lies = opened .contractions-lie k there in omega arith)
+
+  pub shift-right : Between leastShift (length (entryAt image s k .string)) (entryAt image s k .shift)
+  unfolding entryAt
+  shift-right = let r = right .shift-right in let e = string-long in record { low = r .low; high = omega arith }
+
+  -- ---- The right context
+
+  pub no-context-holds : (setting : Setting) (rest : List ℕ) → byte contextByte ≡ noContext
+      → contextHolds (tableIn image s) setting rest (entryAt image s k) ≡ true
+  unfolding contextHolds entryAt
+  no-context-holds setting rest e = rw (eq-eqb (byte contextByte) noContext e)
+
+  context-there : byte contextByte ≢ noContext → pred (byte contextByte) < s .contexts .records
+  context-there n = go (right .context-exists)
+    where
+      go : ContextExists s (byte contextByte) → pred (byte contextByte) < s .contexts .records
+      go (inl e) = absurd (n e)
+      go (inr h) = let l = h .1 in let e = h .2 in omega arith
+
+  context-is : entryAt image s k .context ≡ byte contextByte
+  unfolding entryAt
+  context-is = refl
+
+  context-read : (n : ℕ) → n < s .contexts .records → getD (tableIn image s .contexts) n [] ≡ partWithin image (s .contexts) n 0 contextSize
+  unfolding contextAt
+  context-read n l =
+      context-at image s n l
+      ∙ sym (part-within image (s .contexts) n 0 contextSize (let lies = opened .contexts-lie n l in omega arith))
+
+  pub context-holds-by : (setting : Setting) (rest : List ℕ) → byte contextByte ≢ noContext
+      → contextHolds (tableIn image s) setting rest (entryAt image s k)
+      ≡ member (classAfter (tableIn image s) setting rest (byte lengthByte)) (partWithin image (s .contexts) (byte contextByte - 1) 0 contextSize)
+  unfolding contextHolds
+  context-holds-by setting rest n =
+      rw (context-is, ne-eqb (byte contextByte) noContext n, string-long, sub-one, context-read (pred (byte contextByte)) (context-there n))
+
+  -- ---- Admissible, one test after the other
+
+  module _ (setting : Setting) (states : States) (rest : List ℕ) where
+    abbrev string-begins : Bool
+    string-begins = begins (entryAt image s k .string) rest
+
+    pub not-begun : string-begins ≡ false → admissible (tableIn image s) setting states rest (entry (tableIn image s) k) ≡ false
+    unfolding admissible
+    not-begun e = rw (entry-at image s k there, e)
+
+    pub begun : string-begins ≡ true
+        → admissible (tableIn image s) setting states rest (entry (tableIn image s) k)
+        ≡ (contextHolds (tableIn image s) setting rest (entryAt image s k)
+        && decided (tableIn image s .decisions) states (entryAt image s k .class))
+    unfolding admissible
+    begun e = rw (entry-at image s k there, e)

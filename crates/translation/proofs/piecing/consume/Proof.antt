@@ -1,0 +1,140 @@
+-- `translation::piecing::consume` meets its contract. The loop's invariant, `Piecing`: the signs printed so far, and then those of the pieces to come from
+-- the cursor on, are the signs of all pieces; and so with their number.
+use borrow.Author.Needs.{needs}
+use Prim.Native.Nat.{ℕ, _+_, _-_, _*_, _≤_, _<_}
+use mathlib.Core.List.{List}
+use mathlib.Core.Path.{_≡_, sym, ap, subst}
+use native.Mathlib.Omega.{arith}
+use lib.ListN.{length, drop, length-drop}
+use Rattle.table.specs.Table.{tableIn}
+use Rattle.translation.specs.Pieces.{frontPiece}
+use Rattle.translation.specs.States.{statesIn}
+use Rattle.translation.specs.Inside.{MadeAs}
+use Rattle.translation.proofs.Moving.{start-held}
+use Rattle.translation.proofs.Writing.{wrote-long}
+use Rattle.translation.proofs.Fronts.{Fits, front-fits}
+use Rattle.translation.proofs.Cursor.{rest-lent, Piecing, piecing-starts, piecing-goes-on, piecing-ends}
+use Rattle.translation.proofs.piecing.consume.Statement.{statement}
+use Rattle.translation.proofs.piecing.consume.Tie as tie
+
+abbrev Inv-loop : tie.InvT-loop
+Inv-loop image s setting text signs₀ states₀ at₀ pieces₀ next₀ signs states at pieces next = Piecing image s setting text signs₀ signs states at pieces next
+
+abbrev μ-loop : tie.MeasureT-loop
+μ-loop image s setting text signs₀ states₀ at₀ pieces₀ next₀ signs states at pieces next = length text - at
+
+start-requires : tie.Need-start-requires Inv-loop μ-loop
+start-requires c κs = search needs
+
+loop-holds : tie.Need-loop-holds Inv-loop μ-loop
+loop-holds c =
+    let start = c .before .before .before .before in
+    let a = start .args in
+    let most = start .pre .0 .variables-most in
+    let each = start .pre .0 .transition-each in
+    piecing-starts (a .image .now) (a .s) (a .setting) (a .text .now) (a .signs .now) (c .start .result)
+    (start-held (a .image .now) (a .s) (c .start .result) (c .start .ensures) (omega arith))
+
+sub-front-piece : tie.Need-sub-front-piece Inv-loop μ-loop
+sub-front-piece c = search needs
+
+part-front-piece-start : tie.Need-part-front-piece-start Inv-loop μ-loop
+part-front-piece-start c = search needs
+
+part-front-piece-end : tie.Need-part-front-piece-end Inv-loop μ-loop
+part-front-piece-end c = search needs
+
+front-piece-requires : tie.Need-front-piece-requires Inv-loop μ-loop
+front-piece-requires c κs =
+    let start = c .before .before .before .before .before .before .before .before in
+    let a = start .args in
+    let l = c .before .before .before .loop in
+    let long = wrote-long (l .inv .wrote) in
+    let room = start .pre .1 in
+    (
+      start .pre .0,
+      (
+        rw (rest-lent (a .text .now) (l .at), length-drop (l .at) (a .text .now)) (search needs),
+        omega (arith, l .inv .four-each, l .inv .passed),
+      ),
+    )
+
+-- the piece that is made is the one at the front of the rest, and it fits there
+made : (c : tie.After-front-piece Inv-loop μ-loop)
+    → MadeAs
+    (frontPiece (tableIn (c .before .before .before .before .before .before .before .before .before .args .image .now) (c .before .before .before .before .before .before .before .before .before .args .s))
+    (c .before .before .before .before .before .before .before .before .before .args .setting)
+    (statesIn (c .before .before .before .before .before .before .before .before .before .args .s) (c .before .before .before .before .loop .states))
+    (drop (c .before .before .before .before .loop .at) (c .before .before .before .before .before .before .before .before .before .args .text .now)))
+    (c .before .before .before .before .loop .signs) (c .before .before .before .before .loop .next) (c .front-piece .last .1 .1 .1 .1 .1 .0) (c .front-piece .result)
+made c =
+    let a = c .before .before .before .before .before .before .before .before .before .args in
+    rw (← (rest-lent (a .text .now) (c .before .before .before .before .loop .at))) (c .front-piece .ensures)
+
+-- it takes a character at least, and no more than there are
+record Takes (text : List ℕ) (at shift : ℕ) : Type 0 where
+  least : 1 ≤ shift
+  most : at + shift ≤ length text
+
+takes : (c : tie.After-front-piece Inv-loop μ-loop)
+    → Takes (c .before .before .before .before .before .before .before .before .before .args .text .now) (c .before .before .before .before .loop .at) (c .front-piece .result .shift)
+takes c =
+    let start = c .before .before .before .before .before .before .before .before .before in
+    let a = start .args in
+    let l = c .before .before .before .before .loop in
+    let here : l .at < length (a .text .now) = search needs in
+    let rest = length-drop (l .at) (a .text .now) in
+    let f = front-fits (a .image .now) (a .s) (a .setting) (statesIn (a .s) (l .states)) (drop (l .at) (a .text .now)) (start .pre .0) (omega arith) in
+    let shift = made c .shift-is in
+    record { least = omega (arith, f .least); most = omega (arith, f .most) }
+
+add-pieces : tie.Need-add-pieces Inv-loop μ-loop
+add-pieces c = search needs
+
+add-at : tie.Need-add-at Inv-loop μ-loop
+add-at c =
+    let t = takes (c .before .before .before) in
+    let long = c .before .before .before .before .before .before .before .before .before .before .before .before .good in
+    record { fits = omega (arith, long) }
+
+moved-requires : tie.Need-moved-requires Inv-loop μ-loop
+moved-requires c κs = search needs
+
+loop-less : tie.Need-loop-less Inv-loop μ-loop
+loop-less c = let t = takes (c .before .before .before .before) in omega arith
+
+loop-again : tie.Need-loop-again Inv-loop μ-loop
+loop-again c =
+    let start = c .before .before .before .before .before .before .before .before .before .before .before .before .before in
+    let a = start .args in
+    let l = c .before .before .before .before .before .before .before .before .loop in
+    piecing-goes-on (a .image .now) (a .s) (a .setting) (a .text .now) (a .signs .now) (l .inv) (start .pre .0) (search needs)
+    (made (c .before .before .before .before)) (c .moved .ensures)
+
+same-length : tie.Need-same-length Inv-loop μ-loop
+same-length c = wrote-long (c .before .loop .inv .wrote)
+
+returns : tie.Need-returns Inv-loop μ-loop
+returns c =
+    let a = c .before .before .before .before .before .before .args in
+    piecing-ends (a .image .now) (a .s) (a .setting) (a .text .now) (a .signs .now) (c .before .loop .inv) (search needs)
+
+pub consume-spec : {M : Type 1} → statement M
+consume-spec =
+    tie.close
+    (tie.spec
+    Inv-loop
+    μ-loop
+    start-requires
+    loop-holds
+    sub-front-piece
+    part-front-piece-start
+    part-front-piece-end
+    front-piece-requires
+    add-pieces
+    add-at
+    moved-requires
+    loop-less
+    loop-again
+    same-length
+    returns)

@@ -1,0 +1,79 @@
+// The alphabet: which record has a symbol, the class and the sign of a symbol, and the first character of a text that has no record.
+
+ghost use mathlib.Core.Path.{_≡_};
+ghost use Prim.Native.Nat.{_≤_};
+ghost use lib.ListN.{length};
+ghost use Rattle.table.specs.Table.{tableIn};
+ghost use Rattle.translation.specs.Numbers.{mostText};
+ghost use Rattle.translation.specs.Letters.{letterOf, letterFor, classOf, isUnknown, firstUnknown};
+ghost use Rattle.translation.specs.Found.{found};
+
+use crate::Found;
+use crate::collapsing;
+use table::Sections;
+
+// Which record of the alphabet has the symbol.
+fn letter_of(image: &[u8], s: Sections, c: u8) -> Found
+    ensures { λ r. ⌜ found r ≡ letterOf (tableIn (now (image .entry)) s .letters) c ⌝ }
+{
+    let alphabet = s.alphabet;
+    let n = alphabet.records;
+    let mut k: u16 = 0;
+    while k < n {
+        if table::record_byte(image, alphabet, k, 0) == c {
+            return Found::At(k);
+        }
+        k += 1;
+    }
+    Found::Nothing
+}
+
+// The class of a symbol, 0 where it has no record.
+pub(crate) fn class_of(image: &[u8], s: Sections, c: u8) -> u8
+    ensures { λ r. ⌜ r ≡ classOf (tableIn (now (image .entry)) s .letters) c ⌝ }
+{
+    let alphabet = s.alphabet;
+    match letter_of(image, s, c) {
+        Found::At(k) => table::record_byte(image, alphabet, k, 1),
+        Found::Nothing => 0,
+    }
+}
+
+// The sign of a symbol, 99 where it has no record.
+pub(crate) fn sign_of(image: &[u8], s: Sections, c: u8) -> u8
+    ensures { λ r. ⌜ r ≡ letterFor (tableIn (now (image .entry)) s .letters) c .sign ⌝ }
+{
+    let alphabet = s.alphabet;
+    match letter_of(image, s, c) {
+        Found::At(k) => table::record_byte(image, alphabet, k, 2),
+        Found::Nothing => 99,
+    }
+}
+
+// Whether a lent character is one that remains and has no record.
+fn is_unknown(image: &[u8], s: Sections, c: u8) -> bool
+    ensures { λ r. ⌜ r ≡ isUnknown (tableIn (now (image .entry)) s .letters) c ⌝ }
+{
+    if c == 124 {
+        return false;
+    }
+    match letter_of(image, s, collapsing::unfed(c)) {
+        Found::At(_) => false,
+        Found::Nothing => true,
+    }
+}
+
+// The first character of the text as lent that has no record.
+pub(crate) fn first_unknown(image: &[u8], s: Sections, text: &[u8]) -> Found
+    requires { ⌜ length (now text) ≤ mostText ⌝ }
+    ensures { λ r. ⌜ found r ≡ firstUnknown (tableIn (now (image .entry)) s .letters) (now (text .entry)) ⌝ }
+{
+    let mut i = 0;
+    while i < text.len() {
+        if is_unknown(image, s, text[i]) {
+            return Found::At(i as u16);
+        }
+        i += 1;
+    }
+    Found::Nothing
+}
