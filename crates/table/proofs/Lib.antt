@@ -15,3 +15,6 @@ pub mod Example
 pub mod Product
 pub mod Promises
 pub mod Distances
+pub mod Laid
+pub mod Reading
+pub mod Sound

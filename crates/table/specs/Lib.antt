@@ -9,6 +9,8 @@ pub mod Verdict
 pub mod Found
 pub mod Refusals
 pub mod Judging
+pub mod Laid
+pub mod Sound
 pub mod Example
 pub mod Computing
 pub mod Promises
