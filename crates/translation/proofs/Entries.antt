@@ -11,40 +11,39 @@ use lib.ListN.{length, getD}
 use borrow.Author.Tests.{eq-eqb, ne-eqb}
 use Rattle.table.specs.Numbers.{lengthByte, stringByte, contextByte, shiftByte, signsByte, entrySigns, leastLength, mostLength, leastShift, noContext, contextSize}
 use Rattle.table.specs.Search.{member}
+use Rattle.table.specs.Records.{contractions, sectionNamed}
 use Rattle.table.specs.Sections.{offset, recordByte, recordPart}
 use Rattle.table.specs.Promises.{partWithin}
 use Rattle.table.specs.Refusals.{Between, ContextExists, RightEntry}
 use Rattle.table.specs.Table.{tableIn, entryAt, contextAt}
 use Rattle.table.specs.declared.Sections.{Sections}
+use Rattle.table.proofs.Reading.{part-long, part-within, entry-at, context-at, string-inside, signs-inside, context-inside}
 use Rattle.translation.specs.Decide.{States, decided}
-use Rattle.translation.specs.Choose.{begins, classAfter, contextHolds, admissible, entry}
+use Rattle.translation.specs.Choose.{begins, classAfter, contextHolds, admissible, noEntry, entry}
 use Rattle.translation.specs.Opened.{Opened}
 use Rattle.translation.specs.declared.Setting.{Setting}
-use Rattle.translation.proofs.Records.{part-long, part-within, entry-at, context-at}
 
 module _ (image : List ℕ) (s : Sections) (opened : Opened image s) (k : ℕ) (there : k < s .contractions .records) where
   abbrev byte : ℕ → ℕ
   byte j = recordByte image (s .contractions) k j
 
   right : RightEntry image s k
-  right = opened .entries-right k there
-
-  string-inside : offset (s .contractions) k + stringByte + byte lengthByte ≤ length image
-  string-inside = let lies = opened .contractions-lie k there in let most = right .length-right .high in omega arith
+  unfolding sectionNamed
+  right = opened .right contractions k there
 
   pub string-long : length (entryAt image s k .string) ≡ byte lengthByte
   unfolding entryAt
-  string-long = part-long image (s .contractions) k stringByte (byte lengthByte) string-inside
+  string-long = part-long image (s .contractions) k stringByte (byte lengthByte) (string-inside image s (opened .laid) (opened .right) k there)
 
   pub signs-long : length (entryAt image s k .signs) ≡ entrySigns
   unfolding entryAt
   signs-long =
-      part-long image (s .contractions) k signsByte entrySigns (let lies = opened .contractions-lie k there in omega arith)
+      part-long image (s .contractions) k signsByte entrySigns (signs-inside image s (opened .laid) (opened .right) k there)
 
   pub signs-read : partWithin image (s .contractions) k signsByte entrySigns ≡ entryAt image s k .signs
   unfolding entryAt
   signs-read =
-      part-within image (s .contractions) k signsByte entrySigns (let lies = opened .contractions-lie k there in omega arith)
+      part-within image (s .contractions) k signsByte entrySigns (signs-inside image s (opened .laid) (opened .right) k there)
 
   pub shift-right : Between leastShift (length (entryAt image s k .string)) (entryAt image s k .shift)
   unfolding entryAt
@@ -71,8 +70,8 @@ module _ (image : List ℕ) (s : Sections) (opened : Opened image s) (k : ℕ) (
   context-read : (n : ℕ) → n < s .contexts .records → getD (tableIn image s .contexts) n [] ≡ partWithin image (s .contexts) n 0 contextSize
   unfolding contextAt
   context-read n l =
-      context-at image s n l
-      ∙ sym (part-within image (s .contexts) n 0 contextSize (let lies = opened .contexts-lie n l in omega arith))
+      context-at image s n [] l
+      ∙ sym (part-within image (s .contexts) n 0 contextSize (context-inside image s (opened .laid) (opened .right) n l))
 
   pub context-holds-by : (setting : Setting) (rest : List ℕ) → byte contextByte ≢ noContext
       → contextHolds (tableIn image s) setting rest (entryAt image s k)
@@ -89,11 +88,11 @@ module _ (image : List ℕ) (s : Sections) (opened : Opened image s) (k : ℕ) (
 
     pub not-begun : string-begins ≡ false → admissible (tableIn image s) setting states rest (entry (tableIn image s) k) ≡ false
     unfolding admissible
-    not-begun e = rw (entry-at image s k there, e)
+    not-begun e = rw (entry-at image s k noEntry there, e)
 
     pub begun : string-begins ≡ true
         → admissible (tableIn image s) setting states rest (entry (tableIn image s) k)
         ≡ (contextHolds (tableIn image s) setting rest (entryAt image s k)
         && decided (tableIn image s .decisions) states (entryAt image s k .class))
     unfolding admissible
-    begun e = rw (entry-at image s k there, e)
+    begun e = rw (entry-at image s k noEntry there, e)

@@ -12,16 +12,16 @@ use Rattle.table.specs.Numbers.{blank, entrySigns, leastShift}
 use Rattle.table.specs.Table.{Entry, tableIn, entryAt}
 use Rattle.table.specs.declared.Sections.{Sections}
 use Rattle.table.proofs.Search.{FirstOf, first-found}
+use Rattle.table.proofs.Reading.{entries-long, entry-at}
 use Rattle.translation.specs.Letters.{letterFor}
 use Rattle.translation.specs.Decide.{States}
-use Rattle.translation.specs.Choose.{admissible, entry, choice}
+use Rattle.translation.specs.Choose.{admissible, noEntry, entry, choice}
 use Rattle.translation.specs.Pieces.{Piece, pieceBy, frontPiece, printed}
 use Rattle.translation.specs.Opened.{Opened}
 use Rattle.translation.specs.Inside.{Made, MadeAs}
 use Rattle.translation.specs.declared.Setting.{Setting}
 use Rattle.translation.specs.declared.piecing.Piece.{Piece as MadePiece}
-use Rattle.translation.proofs.Lists.{clash}
-use Rattle.translation.proofs.Records.{getD-there, entries-long, entry-at}
+use Rattle.translation.proofs.Lists.{clash, getD-there}
 use Rattle.translation.proofs.Entries.{shift-right, signs-long, not-begun}
 use Rattle.translation.proofs.Rests.{begins-shorter}
 use Rattle.translation.proofs.Signs.{printed-at-most}
@@ -56,7 +56,7 @@ module _ (image : List ℕ) (s : Sections) (setting : Setting) (states : States)
     unfolding pieceBy
     made-by-entry k e m =
         subst (λ (p : Piece). MadeAs p before n after made) (sym (front-is (some k) e))
-        (subst (λ (x : Entry). Made (x .shift) (x .class) (x .signs) before n after made) (sym (entry-at image s k (chosen-there k e))) m)
+        (subst (λ (x : Entry). Made (x .shift) (x .class) (x .signs) before n after made) (sym (entry-at image s k noEntry (chosen-there k e))) m)
 
     pub made-by-letter : 0 < length rest → chosen ≡ none
         → Made 1 (letterFor (tableIn image s .letters) (getD rest 0 0) .class) (letterFor (tableIn image s .letters) (getD rest 0 0) .sign ∷ []) before n after made
@@ -101,7 +101,7 @@ module _ (image : List ℕ) (s : Sections) (setting : Setting) (states : States)
             let string = string-fits k e in
             let few = printed-at-most (entryAt image s k .signs) in
             let four = signs-long image s opened k there in
-            let here = sym (entry-at image s k there) in
+            let here = sym (entry-at image s k noEntry there) in
             subst Fits (sym (front-is (some k) e))
             (record {
               least = subst (λ (x : Entry). leastShift ≤ x .shift) here (shift .low);

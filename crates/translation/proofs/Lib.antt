@@ -18,4 +18,5 @@ pub mod Signs
 pub mod Printing
 pub mod Fronts
 pub mod Cursor
+pub mod Outcomes
 pub mod Accepted

@@ -68,6 +68,13 @@ module _ {A : Type 0} (f : ℕ → A) where
   pub getD-listOf : (n k : ℕ) (d : A) → k < n → getD (listOf f n) k d ≡ f k
   getD-listOf n k d l = getD-listFrom 0 n k d l ∙ ap f (omega arith)
 
+-- ---- What stands for a missing element doesn't matter within a list
+
+pub getD-there : {A : Type 0} (xs : List A) (i : ℕ) (d e : A) → i < length xs → getD xs i d ≡ getD xs i e
+getD-there [] i d e l = absurd (omega arith)
+getD-there (x ∷ xs) zero d e l = refl
+getD-there (x ∷ xs) (suc i) d e l = getD-there xs i d e (omega arith)
+
 -- ---- All elements of a list
 
 pub data All {A : Type 0} (P : A → Type 0) : List A → Type 0 where

@@ -12,6 +12,7 @@ use Rattle.table.specs.Numbers.{mostVariables}
 use Rattle.table.specs.Sections.{recordPart}
 use Rattle.table.specs.Table.{tableIn, transitionAt}
 use Rattle.table.specs.declared.Sections.{Sections}
+use Rattle.table.proofs.Reading.{transitions-long}
 use Rattle.table.proofs.Lists.{length-listOf, getD-listOf}
 use Rattle.translation.specs.Decide.{States, state, startStates, byteOfClass, turned, moved}
 use Rattle.translation.specs.Opened.{Opened}
@@ -48,10 +49,6 @@ module _ (turn : ℕ → Bool → Bool) (n : ℕ) (before : List Bool) where
 -- ---- All of them
 
 module _ (image : List ℕ) (s : Sections) where
-  transitions-long : length (tableIn image s .transitions) ≡ s .transitions .records
-  unfolding tableIn
-  transitions-long = length-listOf (transitionAt image s) (s .transitions .records)
-
   -- what class `c` makes of the state of variable `v`, read in the image
   abbrev pub turn : ℕ → ℕ → Bool → Bool
   turn c v = turned (byteOfClass (recordPart image (s .transitions) v 0 (s .classes)) c)
@@ -61,11 +58,11 @@ module _ (image : List ℕ) (s : Sections) where
   unfolding statesIn moved tableIn transitionAt
   moving-ends c held next v m l =
       ext-getD false (take n (next .yes)) (moved (tableIn image s) c (take n (held .yes)))
-      (long ∙ sym (length-listOf f (length (tableIn image s .transitions)) ∙ transitions-long))
+      (long ∙ sym (length-listOf f (length (tableIn image s .transitions)) ∙ transitions-long image s))
       (λ j u.
       let h : j < n = omega (arith, long) in
       getD-take n (next .yes) j false h ∙ m .have-moved j (omega arith)
-      ∙ sym (getD-listOf f (length (tableIn image s .transitions)) j false (rw transitions-long h)
+      ∙ sym (getD-listOf f (length (tableIn image s .transitions)) j false (rw (transitions-long image s) h)
       ∙ rw (getD-take n (held .yes) j false h, getD-listOf (transitionAt image s) n j [] h)))
     where
       n : ℕ
@@ -83,7 +80,7 @@ module _ (image : List ℕ) (s : Sections) where
       → statesIn s held ≡ startStates (tableIn image s)
   unfolding statesIn startStates
   start-held held e l =
-      rw (e, transitions-long)
+      rw (e, transitions-long image s)
       (ext-getD false (take n (replicate mostVariables false)) (replicate n false) (long ∙ sym (length-replicate n false))
       (λ j u. let h : j < n = omega (arith, long) in getD-take n (replicate mostVariables false) j false h ∙ getD-replicate mostVariables j false false (omega arith) ∙ sym (getD-replicate n j false false h)))
     where

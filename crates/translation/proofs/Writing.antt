@@ -31,29 +31,29 @@ wrote-one before n x l =
     }
 
 module _ {before : List ℕ} {n : ℕ} {xs middle : List ℕ} {k : ℕ} (first : Wrote before n xs middle k) where
-  front : List ℕ
-  front = take n before ++ xs
+  done : List ℕ
+  done = take n before ++ xs
 
-  front-long : length front ≡ k
-  unfolding front
-  front-long = length-append (take n before) xs ∙ (let t = length-take-le n before (omega arith) in omega arith)
+  done-long : length done ≡ k
+  unfolding done
+  done-long = length-append (take n before) xs ∙ (let t = length-take-le n before (omega arith) in omega arith)
 
   pub wrote-long : length middle ≡ length before
-  unfolding overwritten front
+  unfolding overwritten done
   wrote-long =
-      ap length (first .bytes) ∙ length-append front (drop (n + length xs) before)
-      ∙ (let t = front-long in let d = length-drop (n + length xs) before in omega arith)
+      ap length (first .bytes) ∙ length-append done (drop (n + length xs) before)
+      ∙ (let t = done-long in let d = length-drop (n + length xs) before in omega arith)
 
   -- what stands before the next place, and what stands beyond it
   pub before-next : take k middle ≡ take n before ++ xs
-  unfolding overwritten front
-  before-next = ap (take k) (first .bytes) ∙ take-at front (drop (n + length xs) before) k front-long
+  unfolding overwritten done
+  before-next = ap (take k) (first .bytes) ∙ take-at done (drop (n + length xs) before) k done-long
 
   pub beyond-next : (j : ℕ) → drop (k + j) middle ≡ drop (k + j) before
-  unfolding overwritten front
+  unfolding overwritten done
   beyond-next j =
       ap (drop (k + j)) (first .bytes)
-      ∙ rw (← front-long) (drop-append-add front (drop (n + length xs) before) j)
+      ∙ rw (← done-long) (drop-append-add done (drop (n + length xs) before) j)
       ∙ drop-drop j (n + length xs) before
       ∙ ap (λ (i : ℕ). drop (i + j) before) (sym (first .place))
 
@@ -70,3 +70,16 @@ module _ {before : List ℕ} {n : ℕ} {xs middle : List ℕ} {k : ℕ} (first :
     where
       same : n + length xs + length ys ≡ n + (length xs + length ys)
       same = omega arith
+
+-- ---- From the front
+
+module _ {before xs after : List ℕ} {n : ℕ} (wrote : Wrote before 0 xs after n) where
+  pub front-long : n ≡ length xs
+  front-long = let e = wrote .place in omega arith
+
+  pub front-is : take n after ≡ xs
+  front-is = before-next wrote
+
+  pub front-and-beyond : after ≡ xs ++ drop (length xs) before
+  unfolding overwritten
+  front-and-beyond = let e : 0 + length xs ≡ length xs = omega arith in rw (← e) (wrote .bytes)

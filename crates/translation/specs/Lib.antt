@@ -8,6 +8,8 @@ pub mod Found
 pub mod Opened
 pub mod States
 pub mod Inside
+pub mod Translate
+pub mod Promises
 pub mod Computing
 pub mod Refusals
 pub mod Signs

@@ -6,7 +6,12 @@ mod choosing;
 mod collapsing;
 mod deciding;
 mod piecing;
+mod translating;
 mod variables;
+
+pub use translating::translate;
+
+use table::Fault;
 
 // What a translation is told besides the table and the text: the symbol that follows the end of the text.
 pub struct Setting {
@@ -14,7 +19,15 @@ pub struct Setting {
 }
 
 // What a search answers: the number of a record, or a place of the text.
-pub enum Found {
+pub(crate) enum Found {
     At(u16),
     Nothing,
+}
+
+// What a translation answers: how many pieces and how many signs, or the refusal, with its place where it isn't fixed.
+pub enum Translation {
+    Table(Fault),
+    LongText,
+    Unknown(usize),
+    Done { pieces: usize, signs: usize },
 }

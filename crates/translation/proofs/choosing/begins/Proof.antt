@@ -9,7 +9,7 @@ use lib.ListN.{length}
 use Rattle.table.specs.Numbers.{lengthByte, stringByte}
 use Rattle.table.specs.Sections.{offset, recordByte, recordPart}
 use Rattle.translation.specs.Choose.{begins}
-use Rattle.translation.proofs.Records.{part-long, part-within, part-at}
+use Rattle.table.proofs.Reading.{part-long, part-within, part-at}
 use Rattle.translation.proofs.Rests.{begins-differs}
 use Rattle.translation.proofs.choosing.begins.Statement.{statement}
 use Rattle.translation.proofs.choosing.begins.Tie as tie

@@ -6,7 +6,7 @@ use Rattle.table.specs.Table.{tableIn}
 use lib.ListN.{List·getD-eq-default}
 use Rattle.translation.specs.Letters.{classOf}
 use Rattle.translation.specs.Choose.{classAfter}
-use Rattle.translation.proofs.Records.{getD-there}
+use Rattle.translation.proofs.Lists.{getD-there}
 use Rattle.translation.proofs.choosing.class_after.Statement.{statement}
 use Rattle.translation.proofs.choosing.class_after.Tie as tie
 

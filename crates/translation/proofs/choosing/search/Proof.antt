@@ -7,6 +7,7 @@ use mathlib.Core.Logic.{⊎-elim}
 use mathlib.Core.Path.{_≡_, sym, _∙_}
 use native.Mathlib.Omega.{arith}
 use lib.ListN.{length}
+use Rattle.table.specs.Records.{contractions, sectionNamed}
 use Rattle.table.specs.Table.{tableIn, entryAt}
 use Rattle.table.specs.declared.Sections.{Sections}
 use Rattle.translation.specs.Decide.{States}
@@ -14,7 +15,7 @@ use Rattle.translation.specs.Choose.{admissible, entry, choice}
 use Rattle.translation.specs.States.{statesIn}
 use Rattle.translation.specs.declared.Setting.{Setting}
 use Rattle.translation.proofs.Loops.{NoneBelow, none-yet, none-more, found-first, found-none}
-use Rattle.translation.proofs.Records.{entries-long}
+use Rattle.table.proofs.Reading.{entries-long}
 use Rattle.translation.proofs.Entries.{not-begun, begun}
 use Rattle.translation.proofs.choosing.search.Statement.{statement}
 use Rattle.translation.proofs.choosing.search.Tie as tie
@@ -32,10 +33,11 @@ loop-holds : tie.Need-loop-holds Inv-loop μ-loop
 loop-holds c = (omega arith, none-yet _)
 
 begins-requires : tie.Need-begins-requires Inv-loop μ-loop
+unfolding sectionNamed
 begins-requires c κs =
     let start = c .before .before .before .before .before in
     let k = c .before .loop .k in
-    (start .pre .0 .contractions-lie k (search needs), (start .pre .0 .entries-right k (search needs) .length-right, start .pre .1))
+    (start .pre .0 .laid .contractions-laid .lies k (search needs), (start .pre .0 .right contractions k (search needs) .length-right, start .pre .1))
 
 allowed-requires : tie.Need-allowed-requires Inv-loop μ-loop
 allowed-requires c κs = search needs

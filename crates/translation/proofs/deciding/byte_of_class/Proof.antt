@@ -6,7 +6,7 @@ use native.Mathlib.Omega.{arith}
 use lib.ListN.{length, List·getD-eq-default}
 use Rattle.table.specs.Sections.{offset, recordByte, recordPart}
 use Rattle.translation.specs.Decide.{byteOfClass}
-use Rattle.translation.proofs.Records.{part-long, part-at}
+use Rattle.table.proofs.Reading.{part-long, part-at}
 use Rattle.translation.proofs.deciding.byte_of_class.Statement.{statement}
 use Rattle.translation.proofs.deciding.byte_of_class.Tie as tie
 

@@ -10,7 +10,7 @@ use Rattle.table.specs.Sections.{offset}
 use Rattle.table.specs.Table.{columnAt}
 use Rattle.translation.specs.Decide.{conditionHolds}
 use Rattle.translation.specs.States.{statesIn}
-use Rattle.translation.proofs.Records.{part-at}
+use Rattle.table.proofs.Reading.{part-at}
 use Rattle.translation.proofs.deciding.condition_holds.Statement.{statement}
 use Rattle.translation.proofs.deciding.condition_holds.Tie as tie
 
@@ -31,9 +31,9 @@ unfolding columnAt statesIn
 returns c =
     let a = c .before .before .before .before .before .before .args in
     let o = c .before .before .before .before .before .before .pre .0 in
-    let d = o .decisions-lie (a .k) (search needs) in
+    let d = o .laid .decisions-laid .lies (a .k) (search needs) in
     let inside : offset (a .s .decisions) (a .k) + a .s .classes + a .s .variables ≤ length (a .image .now) = omega arith in
-    let there : a .v < a .s .transitions .records = let e = o .transition-each in omega arith in
+    let there : a .v < a .s .transitions .records = let e = o .laid .transitions-laid .number-right in omega arith in
     c .meets .ensures
     ∙ ap₂ conditionHolds
     (c .before .record-byte .ensures .is

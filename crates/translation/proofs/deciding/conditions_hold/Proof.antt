@@ -16,7 +16,7 @@ use Rattle.translation.specs.Decide.{States, state, conditionHolds, cond
 use Rattle.translation.specs.Opened.{Opened}
 use Rattle.translation.specs.States.{statesIn}
 use Rattle.translation.proofs.Loops.{NoneBelow, none-yet, none-more, found-first, found-none}
-use Rattle.translation.proofs.Records.{part-long}
+use Rattle.table.proofs.Reading.{part-long}
 use Rattle.translation.proofs.deciding.conditions_hold.Statement.{statement}
 use Rattle.translation.proofs.deciding.conditions_hold.Tie as tie
 
@@ -27,7 +27,7 @@ conditions-long : (image : List ℕ) (s : Sections) (k : ℕ) → Opened image s
     → length (columnAt image s k .conditions) ≡ s .variables
 unfolding columnAt
 conditions-long image s k o l =
-    let d = o .decisions-lie k l in
+    let d = o .laid .decisions-laid .lies k l in
     part-long image (s .decisions) k (s .classes) (s .variables) (omega arith)
 
 abbrev Inv-loop : tie.InvT-loop

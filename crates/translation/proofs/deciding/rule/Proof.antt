@@ -15,7 +15,7 @@ use Rattle.table.specs.Table.{columnAt}
 byte-of-class-requires : tie.Need-byte-of-class-requires
 byte-of-class-requires c κs =
     let start = c .before .before in
-    let d = start .pre .0 .decisions-lie (start .args .k) (start .pre .1) in
+    let d = start .pre .0 .laid .decisions-laid .lies (start .args .k) (start .pre .1) in
     omega arith
 
 -- the byte that was read is that of the column

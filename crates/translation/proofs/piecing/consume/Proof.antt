@@ -30,8 +30,8 @@ loop-holds : tie.Need-loop-holds Inv-loop μ-loop
 loop-holds c =
     let start = c .before .before .before .before in
     let a = start .args in
-    let most = start .pre .0 .variables-most in
-    let each = start .pre .0 .transition-each in
+    let most = start .pre .0 .laid .variables-right in
+    let each = start .pre .0 .laid .transitions-laid .number-right in
     piecing-starts (a .image .now) (a .s) (a .setting) (a .text .now) (a .signs .now) (c .start .result)
     (start-held (a .image .now) (a .s) (c .start .result) (c .start .ensures) (omega arith))
 
@@ -108,8 +108,8 @@ loop-again c =
     let start = c .before .before .before .before .before .before .before .before .before .before .before .before .before in
     let a = start .args in
     let l = c .before .before .before .before .before .before .before .before .loop in
-    piecing-goes-on (a .image .now) (a .s) (a .setting) (a .text .now) (a .signs .now) (l .inv) (start .pre .0) (search needs)
-    (made (c .before .before .before .before)) (c .moved .ensures)
+    piecing-goes-on (a .image .now) (a .s) (a .setting) (a .text .now) (a .signs .now) (l .inv) (start .pre .0)
+    (c .before .before .before .before .before .before .before .loop-test .taken) (made (c .before .before .before .before)) (c .moved .ensures)
 
 same-length : tie.Need-same-length Inv-loop μ-loop
 same-length c = wrote-long (c .before .loop .inv .wrote)

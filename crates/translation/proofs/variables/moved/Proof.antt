@@ -26,15 +26,15 @@ loop-holds : tie.Need-loop-holds Inv-loop μ-loop
 loop-holds c =
     let start = c .before .before .before in
     let long : length (start .args .states .yes) ≡ 15 = search needs in
-    let most = start .pre .variables-most in
-    let each = start .pre .transition-each in
+    let most = start .pre .laid .variables-right in
+    let each = start .pre .laid .transitions-laid .number-right in
     moving-starts _ _ _ (omega arith)
 
 cast-i : tie.Need-cast-i Inv-loop μ-loop
 cast-i c = search needs
 
 byte-of-class-requires : tie.Need-byte-of-class-requires Inv-loop μ-loop
-byte-of-class-requires c κs = c .before .before .before .before .before .pre .transitions-lie (c .before .loop .v) (search needs)
+byte-of-class-requires c κs = c .before .before .before .before .before .pre .laid .transitions-laid .lies (c .before .loop .v) (search needs)
 
 array-read-turned : tie.Need-array-read-turned Inv-loop μ-loop
 array-read-turned c = search needs

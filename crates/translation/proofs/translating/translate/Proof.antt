@@ -1,0 +1,17 @@
+-- `translation::translating::translate` meets its contract: what follows the text is the blank, and the array that is lent has 65,536 bytes.
+use borrow.Author.Needs.{needs}
+use Rattle.translation.specs.Translate.{translation}
+use Rattle.translation.proofs.translating.translate.Statement.{statement}
+use Rattle.translation.proofs.translating.translate.Tie as tie
+
+translate-followed-requires : tie.Need-translate-followed-requires
+translate-followed-requires c κs = search needs
+
+returns : tie.Need-returns
+unfolding translation
+returns c =
+    let ends = c .translate-followed .ensures in
+    record { answers = ends .answers; leaves = ends .leaves }
+
+pub translate-spec : {M : Type 1} → statement M
+translate-spec = tie.close (tie.spec translate-followed-requires returns)

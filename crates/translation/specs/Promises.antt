@@ -1,0 +1,12 @@
+-- What the public function of this crate promises, as a relation between what it is given and what it answers. proofs/Promises.antt shows that any two
+-- results that the promise allows are equal.
+use Prim.Native.Nat.{ℕ}
+use mathlib.Core.List.{List}
+use mathlib.Core.Path.{_≡_}
+use Rattle.translation.specs.Translate.{translation}
+use Rattle.translation.specs.declared.Translation.{Translation}
+
+-- `translate`: the answer of the definitions, and their signs in the buffer that was lent
+pub record Translated (image text before : List ℕ) (answer : Translation) (after : List ℕ) : Type 0 where
+  pub answers : answer ≡ translation image text before .answer
+  pub leaves : after ≡ translation image text before .signs

@@ -1,0 +1,73 @@
+// The whole call: the table is judged, then the text, and then the text is collapsed and its pieces print their signs.
+
+ghost use mathlib.Core.Path.{_≡_};
+ghost use Prim.Native.Nat.{_*_, _≤_};
+ghost use lib.ListN.{length};
+ghost use Rattle.table.specs.Numbers.{entrySigns};
+ghost use Rattle.table.specs.Table.{tableIn};
+ghost use Rattle.translation.specs.Numbers.{mostText};
+ghost use Rattle.translation.specs.Opened.{Opened};
+ghost use Rattle.translation.specs.Translate.{Ends, translateBy, translateFollowed};
+ghost use Rattle.translation.specs.Promises.{Translated};
+
+use crate::Found;
+use crate::Setting;
+use crate::Translation;
+use crate::alphabet::first_unknown;
+use crate::collapsing::collapse;
+use crate::piecing::consume;
+use table::Sections;
+use table::Verdict;
+
+// Refusals 6 and 7, or the pieces of the text and their signs, by the table of an accepted image.
+fn translate_by(image: &[u8], s: Sections, setting: Setting, text: &[u8], signs: &mut [u8]) -> Translation
+    requires { ⌜ Opened (now image) s ⌝ }
+    requires { ⌜ entrySigns * mostText ≤ length (now signs) ⌝ }
+    ensures {
+        λ r. ⌜ Ends (translateBy (tableIn (now (image .entry)) s) setting (now (text .entry)) (now (signs .entry))) r (now (signs .exit)) ⌝
+    }
+{
+    if 16384 < text.len() {
+        return Translation::LongText;
+    }
+    match first_unknown(image, s, text) {
+        Found::At(i) => Translation::Unknown(i as usize),
+        Found::Nothing => {
+            let mut collapsed = [0u8; 16384];
+            let n = collapse(text, &mut collapsed);
+            let counts = consume(image, s, setting, &collapsed[..n], signs);
+            Translation::Done {
+                pieces: counts.pieces,
+                signs: counts.signs,
+            }
+        }
+    }
+}
+
+// Refusals 1 to 4, or what the table of the image makes of the text, where `setting` says what follows it.
+fn translate_followed(setting: Setting, image: &[u8], text: &[u8], signs: &mut [u8]) -> Translation
+    requires { ⌜ entrySigns * mostText ≤ length (now signs) ⌝ }
+    ensures {
+        λ r. ⌜ Ends (translateFollowed setting (now (image .entry)) (now (text .entry)) (now (signs .entry))) r (now (signs .exit)) ⌝
+    }
+{
+    match table::check(image) {
+        Verdict::Refused(fault) => Translation::Table(fault),
+        Verdict::Accepted => translate_by(image, table::locate(image), setting, text, signs),
+    }
+}
+
+// Translates a text by a table: the refusal, or how many pieces it has and how many signs, which stand at the front of `signs`. What lies beyond them, and
+// all of `signs` where it is refused, is as it was.
+pub fn translate(image: &[u8], text: &[u8], signs: &mut [u8; 65536]) -> Translation
+    ensures { λ r. ⌜ Translated (now (image .entry)) (now (text .entry)) (now (signs .entry)) r (now (signs .exit)) ⌝ }
+{
+    translate_followed(
+        Setting {
+            following: 32,
+        },
+        image,
+        text,
+        signs,
+    )
+}
