@@ -47,10 +47,12 @@ returns-2 c =
     let start = c .before .before .before .before .before .before .before .before .before .before in
     let a = start .args in
     let number = c .before .before .before .before .before .before .record-byte .ensures .is in
-    rw (context-holds-by (a .image .now) (a .s) (start .pre .0) (a .k) (start .pre .1) (a .setting) (a .rest .now)
-    (λ e. c .before .before .before .before .before .if1 .left (number ∙ e)),
-    ← number,
-    ← (c .before .before .before .before .record-byte2 .ensures .is))
+    rw (
+      context-holds-by (a .image .now) (a .s) (start .pre .0) (a .k) (start .pre .1) (a .setting) (a .rest .now)
+          (λ e. c .before .before .before .before .before .if1 .left (number ∙ e)),
+      ← number,
+      ← (c .before .before .before .before .record-byte2 .ensures .is),
+    )
     (c .holds .ensures ∙ ap₂ member (c .before .before .before .class-after .ensures) (c .before .record-part .ensures .is))
 
 pub context-holds-spec : {M : Type 1} → statement M

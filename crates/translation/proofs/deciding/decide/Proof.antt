@@ -45,8 +45,8 @@ enum-told c = search needs
 -- the ruling of column `k`, as the code has it, and what the columns from `k` on decide by it
 ruled : (c : tie.After-rule Inv-loop μ-loop) (o : Ruling) → said (c .rule .result) ≡ o
     → decided (tableIn (c .before .before .before .before .before .args .image .now) (c .before .before .before .before .before .args .s) .decisions)
-      (statesIn (c .before .before .before .before .before .args .s) (c .before .before .before .before .before .args .states))
-      (c .before .before .before .before .before .args .c)
+    (statesIn (c .before .before .before .before .before .args .s) (c .before .before .before .before .before .args .states))
+    (c .before .before .before .before .before .args .c)
     ≡ elim o [
       | accept ↦ true
       | reject ↦ false

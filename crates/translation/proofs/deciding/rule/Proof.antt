@@ -39,22 +39,26 @@ conditions-hold-requires c κs = search needs
 returns-3 : tie.Need-returns-3
 unfolding ruling
 returns-3 c =
-    rw (← (read (c .before .before .before .before .before)),
-    ne-eqb _ _ (c .before .before .before .before .if1 .left),
-    ne-eqb _ _ (c .before .before .before .if2 .left),
-    c .before .before .if3 .taken,
-    ← (c .before .conditions-hold .ensures),
-    c .if4 .taken)
+    rw (
+      ← (read (c .before .before .before .before .before)),
+      ne-eqb _ _ (c .before .before .before .before .if1 .left),
+      ne-eqb _ _ (c .before .before .before .if2 .left),
+      c .before .before .if3 .taken,
+      ← (c .before .conditions-hold .ensures),
+      c .if4 .taken,
+    )
 
 returns-4 : tie.Need-returns-4
 unfolding ruling
 returns-4 c =
-    rw (← (read (c .before .before .before .before .before)),
-    ne-eqb _ _ (c .before .before .before .before .if1 .left),
-    ne-eqb _ _ (c .before .before .before .if2 .left),
-    c .before .before .if3 .taken,
-    ← (c .before .conditions-hold .ensures),
-    c .if4 .left)
+    rw (
+      ← (read (c .before .before .before .before .before)),
+      ne-eqb _ _ (c .before .before .before .before .if1 .left),
+      ne-eqb _ _ (c .before .before .before .if2 .left),
+      c .before .before .if3 .taken,
+      ← (c .before .conditions-hold .ensures),
+      c .if4 .left,
+    )
 
 conditions-hold-requires-2 : tie.Need-conditions-hold-requires-2
 conditions-hold-requires-2 c κs = search needs
@@ -62,33 +66,39 @@ conditions-hold-requires-2 c κs = search needs
 returns-5 : tie.Need-returns-5
 unfolding ruling
 returns-5 c =
-    rw (← (read (c .before .before .before .before .before .before)),
-    ne-eqb _ _ (c .before .before .before .before .before .if1 .left),
-    ne-eqb _ _ (c .before .before .before .before .if2 .left),
-    ne-eqb _ _ (c .before .before .before .if3 .left),
-    c .before .before .if5 .taken,
-    ← (c .before .conditions-hold2 .ensures),
-    c .if6 .taken)
+    rw (
+      ← (read (c .before .before .before .before .before .before)),
+      ne-eqb _ _ (c .before .before .before .before .before .if1 .left),
+      ne-eqb _ _ (c .before .before .before .before .if2 .left),
+      ne-eqb _ _ (c .before .before .before .if3 .left),
+      c .before .before .if5 .taken,
+      ← (c .before .conditions-hold2 .ensures),
+      c .if6 .taken,
+    )
 
 returns-6 : tie.Need-returns-6
 unfolding ruling
 returns-6 c =
-    rw (← (read (c .before .before .before .before .before .before)),
-    ne-eqb _ _ (c .before .before .before .before .before .if1 .left),
-    ne-eqb _ _ (c .before .before .before .before .if2 .left),
-    ne-eqb _ _ (c .before .before .before .if3 .left),
-    c .before .before .if5 .taken,
-    ← (c .before .conditions-hold2 .ensures),
-    c .if6 .left)
+    rw (
+      ← (read (c .before .before .before .before .before .before)),
+      ne-eqb _ _ (c .before .before .before .before .before .if1 .left),
+      ne-eqb _ _ (c .before .before .before .before .if2 .left),
+      ne-eqb _ _ (c .before .before .before .if3 .left),
+      c .before .before .if5 .taken,
+      ← (c .before .conditions-hold2 .ensures),
+      c .if6 .left,
+    )
 
 returns-7 : tie.Need-returns-7
 unfolding ruling
 returns-7 c =
-    rw (← (read (c .before .before .before .before)),
-    ne-eqb _ _ (c .before .before .before .if1 .left),
-    ne-eqb _ _ (c .before .before .if2 .left),
-    ne-eqb _ _ (c .before .if3 .left),
-    ne-eqb _ _ (c .if5 .left))
+    rw (
+      ← (read (c .before .before .before .before)),
+      ne-eqb _ _ (c .before .before .before .if1 .left),
+      ne-eqb _ _ (c .before .before .if2 .left),
+      ne-eqb _ _ (c .before .if3 .left),
+      ne-eqb _ _ (c .if5 .left),
+    )
 
 pub rule-spec : {M : Type 1} → statement M
 rule-spec =

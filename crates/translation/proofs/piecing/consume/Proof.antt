@@ -50,8 +50,7 @@ front-piece-requires c κs =
     let a = start .args in
     let l = c .before .before .before .loop in
     let long = wrote-long (l .inv .wrote) in
-    let room = start .pre .1 in
-    (
+    let room = start .pre .1 in (
       start .pre .0,
       (
         rw (rest-lent (a .text .now) (l .at), length-drop (l .at) (a .text .now)) (search needs),
