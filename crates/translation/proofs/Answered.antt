@@ -1,11 +1,11 @@
--- What a translation that is done tells, from the promise of `translate` alone: the table is accepted, the text is short and known, the counts and the signs
--- are those of the pieces, and the laws of the pieces hold of them. Every refusal leaves the signs as they were.
+-- What a translation that is done tells, from the promise of `translate` alone: the table is accepted, the text is short and known, the counts and the
+-- signs are those of the pieces, and the laws of the pieces hold of them. Every refusal leaves the signs as they were.
 use Prim.Native.Nat.{ℕ, suc, _≤_, _<_}
 use mathlib.Core.Bool.{false}
 use mathlib.Core.List.{List, _++_, map, flatten}
 use mathlib.Core.Logic.{_≢_}
 use mathlib.Core.Option.{Option, none, some}
-use mathlib.Core.Path.{_≡_, refl, sym, _∙_, ap, subst}
+use mathlib.Core.Path.{_≡_, refl, sym, _∙_, ap}
 use native.Mathlib.Decide.{decLt}
 use native.Mathlib.Omega.{arith}
 use lib.ListN.{length, getD, drop, List·getD-append}
@@ -17,14 +17,14 @@ use Rattle.translation.specs.Numbers.{mostText}
 use Rattle.translation.specs.Collapse.{collapsed}
 use Rattle.translation.specs.Letters.{firstUnknown}
 use Rattle.translation.specs.Decide.{state, moved}
-use Rattle.translation.specs.Pieces.{Piece, characters, piecesIn, piecesOf, signsOf}
+use Rattle.translation.specs.Pieces.{characters, piecesIn, piecesOf, signsOf}
 use Rattle.translation.specs.Sound.{Sound}
 use Rattle.translation.specs.Signs.{PrintedSign}
 use Rattle.translation.specs.Chosen.{pieceIn, Chosen}
 use Rattle.translation.specs.Translate.{Outcome, Ends, done, blankFollows, translation}
 use Rattle.translation.specs.Promises.{Translated}
 use Rattle.translation.specs.declared.Translation.{Translation}
-use Rattle.translation.specs.declared.Translation.the-variants.{Done, Table as TableRefused, LongText, Unknown}
+use Rattle.translation.specs.declared.Translation.the-variants.{Done}
 use Rattle.translation.proofs.Accepted.{accepted-sound}
 use Rattle.translation.proofs.Pieces.{pieces-at-most-collapsed}
 use Rattle.translation.proofs.Consumed.{consumed}
@@ -70,13 +70,13 @@ done-means {image} {text} {before} {n} {g} {after} t = by-verdict (verdictOf ima
         }
     by-letters v s (some i) e =
         let z : _≡_ {A = ℕ} 0 1 =
-            cc (clash (table-accepted blankFollows image text before v (unknown-at (tableOf image) blankFollows text before s i e))) in
+        cc (clash (table-accepted blankFollows image text before v (unknown-at (tableOf image) blankFollows text before s i e))) in
         absurd (omega arith)
 
     by-length : verdictOf image ≡ Accepted → Dec (mostText < length text) → DoneBy image text before n g after
     by-length v (yes l) =
         let z : _≡_ {A = ℕ} 0 1 =
-            cc (clash (table-accepted blankFollows image text before v (too-long (tableOf image) blankFollows text before l))) in
+        cc (clash (table-accepted blankFollows image text before v (too-long (tableOf image) blankFollows text before l))) in
         absurd (omega arith)
     by-length v (no d) = by-letters v (omega arith) (firstUnknown (tableOf image .letters) text) refl
 
@@ -96,11 +96,11 @@ refused-keeps {image} {text} {before} {answer} {after} t refusal = by-verdict (v
     kept : {a : Translation} → Ends (translation image text before) a before → after ≡ before
     kept e = t .leaves ∙ sym (e .leaves)
 
-    by-letters : verdictOf image ≡ Accepted → length text ≤ mostText → (o : Option ℕ) → firstUnknown (tableOf image .letters) text ≡ o → after ≡ before
+    by-letters : verdictOf image ≡ Accepted → length text ≤ mostText → (o : Option ℕ) → firstUnknown (tableOf image .letters) text ≡ o
+        → after ≡ before
     by-letters v s none e =
-        absurd
-        (refusal _ _
-        (t .answers ∙ ap (λ (o : Outcome). o .answer) (followed-by blankFollows image text before v ∙ done-by (tableOf image) blankFollows text before s e)))
+        let whole = followed-by blankFollows image text before v ∙ done-by (tableOf image) blankFollows text before s e in
+        absurd (refusal _ _ (t .answers ∙ ap (λ (o : Outcome). o .answer) whole))
     by-letters v s (some i) e = kept (table-accepted blankFollows image text before v (unknown-at (tableOf image) blankFollows text before s i e))
 
     by-length : verdictOf image ≡ Accepted → Dec (mostText < length text) → after ≡ before

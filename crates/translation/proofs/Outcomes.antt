@@ -1,10 +1,9 @@
 -- The outcomes of a translation, case by case: each refusal with the signs as they were, and the pieces with their signs at the front.
 use Prim.Native.Nat.{ℕ, _≤_, _<_}
-use mathlib.Core.Bool.{Bool, true, false}
-use mathlib.Core.List.{List, _++_}
+use mathlib.Core.List.{List}
 use mathlib.Core.Option.{Option, none, some}
-use mathlib.Core.Path.{_≡_, refl, sym, _∙_, ap, ap₂, subst}
-use lib.ListN.{length, drop}
+use mathlib.Core.Path.{_≡_, refl, sym, ap, ap₂, subst}
+use lib.ListN.{length}
 use borrow.Author.Tests.{le-leb, lt-leb}
 use Rattle.table.specs.Table.{Table, tableOf}
 use Rattle.table.specs.Verdict.{verdictOf}
@@ -14,7 +13,7 @@ use Rattle.table.specs.declared.Verdict.the-variants.{Accepted, Refused}
 use Rattle.translation.specs.Numbers.{mostText}
 use Rattle.translation.specs.Collapse.{collapsed}
 use Rattle.translation.specs.Letters.{firstUnknown}
-use Rattle.translation.specs.Pieces.{piecesIn, piecesOf, signsOf}
+use Rattle.translation.specs.Pieces.{piecesIn, piecesOf}
 use Rattle.translation.specs.Inside.{Consumed}
 use Rattle.translation.specs.Translate.{Outcome, Ends, refused, done, translateBy, translateFollowed}
 use Rattle.translation.specs.declared.Setting.{Setting}

@@ -7,7 +7,6 @@ ghost use Rattle.table.specs.Table.{tableIn};
 ghost use Rattle.translation.specs.Numbers.{mostText};
 ghost use Rattle.translation.specs.Letters.{letterOf, letterFor, classOf, isUnknown, firstUnknown};
 ghost use Rattle.translation.specs.Found.{found};
-
 use crate::Found;
 use crate::collapsing;
 use table::Sections;

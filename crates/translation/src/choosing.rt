@@ -15,7 +15,6 @@ ghost use Rattle.translation.specs.Choose.{begins, classAfter, contextHo
 ghost use Rattle.translation.specs.Opened.{Opened};
 ghost use Rattle.translation.specs.States.{statesIn};
 ghost use Rattle.translation.specs.Found.{found};
-
 use crate::Found;
 use crate::Setting;
 use crate::alphabet::class_of;
@@ -46,7 +45,8 @@ fn begins(image: &[u8], entries: Section, k: u16, rest: &[u8]) -> bool
     requires { ⌜ offset entries k + entrySize ≤ length (now image) ⌝ }
     requires { ⌜ Between leastLength mostLength (recordByte (now image) entries k lengthByte) ⌝ }
     requires { ⌜ 0 < length (now rest) ⌝ }
-    ensures { λ r. ⌜ r ≡ begins (recordPart (now (image .entry)) entries k stringByte (recordByte (now (image .entry)) entries k lengthByte)) (now (rest .entry)) ⌝ }
+    ensures { λ r. ⌜ r ≡ begins (recordPart (now (image .entry)) entries k stringByte (recordByte (now (image .entry)) entries k lengthByte))
+        (now (rest .entry)) ⌝ }
 {
     if table::record_byte(image, entries, k, 1) != rest[0] {
         return false;
@@ -93,17 +93,18 @@ fn context_holds(image: &[u8], s: Sections, setting: Setting, k: u16, rest: &[u8
     let n = table::record_byte(image, entries, k, 0) as usize;
     let c = class_after(image, s, setting, rest, n);
     let contexts = s.contexts;
-    holds(c, table::record_part(image, contexts, (number - 1) as u16, 0, 4))
+    holds(
+        c,
+        table::record_part(image, contexts, (number - 1) as u16, 0, 4),
+    )
 }
 
 // Whether an entry whose string begins the rest is admissible: its right context holds, and the decision table accepts its class.
 fn allowed(image: &[u8], s: Sections, setting: Setting, states: States, k: u16, rest: &[u8]) -> bool
     requires { ⌜ Opened (now image) s ⌝ }
     requires { ⌜ k < s .contractions .records ⌝ }
-    ensures {
-        λ r. ⌜ r ≡ (contextHolds (tableIn (now (image .entry)) s) setting (now (rest .entry)) (entryAt (now (image .entry)) s k)
-        && decided (tableIn (now (image .entry)) s .decisions) (statesIn s states) (entryAt (now (image .entry)) s k .class)) ⌝
-    }
+    ensures { λ r. ⌜ r ≡ (contextHolds (tableIn (now (image .entry)) s) setting (now (rest .entry)) (entryAt (now (image .entry)) s k)
+        && decided (tableIn (now (image .entry)) s .decisions) (statesIn s states) (entryAt (now (image .entry)) s k .class)) ⌝ }
 {
     if !context_holds(image, s, setting, k, rest) {
         return false;
@@ -113,7 +114,13 @@ fn allowed(image: &[u8], s: Sections, setting: Setting, states: States, k: u16, 
 }
 
 // The first admissible entry in table order.
-pub(crate) fn search(image: &[u8], s: Sections, setting: Setting, states: States, rest: &[u8]) -> Found
+pub(crate) fn search(
+    image: &[u8],
+    s: Sections,
+    setting: Setting,
+    states: States,
+    rest: &[u8],
+) -> Found
     requires { ⌜ Opened (now image) s ⌝ }
     requires { ⌜ 0 < length (now rest) ⌝ }
     ensures { λ r. ⌜ found r ≡ choice (tableIn (now (image .entry)) s) setting (statesIn s states) (now (rest .entry)) ⌝ }

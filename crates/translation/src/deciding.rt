@@ -9,7 +9,6 @@ ghost use Rattle.table.specs.Table.{tableIn, columnAt};
 ghost use Rattle.translation.specs.Decide.{state, byteOfClass, conditionHolds, conditionsHold, ruling, decided};
 ghost use Rattle.translation.specs.Opened.{Opened};
 ghost use Rattle.translation.specs.States.{statesIn, said};
-
 use crate::variables::States;
 use table::Section;
 use table::Sections;

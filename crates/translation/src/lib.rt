@@ -9,9 +9,8 @@ mod piecing;
 mod translating;
 mod variables;
 
-pub use translating::translate;
-
 use table::Fault;
+pub use translating::translate;
 
 // What a translation is told besides the table and the text: the symbol that follows the end of the text.
 pub struct Setting {

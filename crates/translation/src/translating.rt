@@ -1,6 +1,5 @@
 // The whole call: the table is judged, then the text, and then the text is collapsed and its pieces print their signs.
 
-ghost use mathlib.Core.Path.{_≡_};
 ghost use Prim.Native.Nat.{_*_, _≤_};
 ghost use lib.ListN.{length};
 ghost use Rattle.table.specs.Numbers.{entrySigns};
@@ -9,7 +8,6 @@ ghost use Rattle.translation.specs.Numbers.{mostText};
 ghost use Rattle.translation.specs.Opened.{Opened};
 ghost use Rattle.translation.specs.Translate.{Ends, translateBy, translateFollowed};
 ghost use Rattle.translation.specs.Promises.{Translated};
-
 use crate::Found;
 use crate::Setting;
 use crate::Translation;
@@ -20,12 +18,16 @@ use table::Sections;
 use table::Verdict;
 
 // Refusals 6 and 7, or the pieces of the text and their signs, by the table of an accepted image.
-fn translate_by(image: &[u8], s: Sections, setting: Setting, text: &[u8], signs: &mut [u8]) -> Translation
+fn translate_by(
+    image: &[u8],
+    s: Sections,
+    setting: Setting,
+    text: &[u8],
+    signs: &mut [u8],
+) -> Translation
     requires { ⌜ Opened (now image) s ⌝ }
     requires { ⌜ entrySigns * mostText ≤ length (now signs) ⌝ }
-    ensures {
-        λ r. ⌜ Ends (translateBy (tableIn (now (image .entry)) s) setting (now (text .entry)) (now (signs .entry))) r (now (signs .exit)) ⌝
-    }
+    ensures { λ r. ⌜ Ends (translateBy (tableIn (now (image .entry)) s) setting (now (text .entry)) (now (signs .entry))) r (now (signs .exit)) ⌝ }
 {
     if 16384 < text.len() {
         return Translation::LongText;
@@ -47,9 +49,7 @@ fn translate_by(image: &[u8], s: Sections, setting: Setting, text: &[u8], signs:
 // Refusals 1 to 4, or what the table of the image makes of the text, where `setting` says what follows it.
 fn translate_followed(setting: Setting, image: &[u8], text: &[u8], signs: &mut [u8]) -> Translation
     requires { ⌜ entrySigns * mostText ≤ length (now signs) ⌝ }
-    ensures {
-        λ r. ⌜ Ends (translateFollowed setting (now (image .entry)) (now (text .entry)) (now (signs .entry))) r (now (signs .exit)) ⌝
-    }
+    ensures { λ r. ⌜ Ends (translateFollowed setting (now (image .entry)) (now (text .entry)) (now (signs .entry))) r (now (signs .exit)) ⌝ }
 {
     match table::check(image) {
         Verdict::Refused(fault) => Translation::Table(fault),
@@ -62,12 +62,5 @@ fn translate_followed(setting: Setting, image: &[u8], text: &[u8], signs: &mut [
 pub fn translate(image: &[u8], text: &[u8], signs: &mut [u8; 65536]) -> Translation
     ensures { λ r. ⌜ Translated (now (image .entry)) (now (text .entry)) (now (signs .entry)) r (now (signs .exit)) ⌝ }
 {
-    translate_followed(
-        Setting {
-            following: 32,
-        },
-        image,
-        text,
-        signs,
-    )
+    translate_followed(Setting { following: 32 }, image, text, signs)
 }

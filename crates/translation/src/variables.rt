@@ -2,13 +2,12 @@
 
 ghost use mathlib.Core.Path.{_≡_};
 ghost use mathlib.Core.Bool.{false};
-ghost use lib.ListN.{length, replicate};
+ghost use lib.ListN.{replicate};
 ghost use Rattle.table.specs.Numbers.{mostVariables};
 ghost use Rattle.table.specs.Table.{tableIn};
 ghost use Rattle.translation.specs.Decide.{turned, moved};
 ghost use Rattle.translation.specs.Opened.{Opened};
 ghost use Rattle.translation.specs.States.{statesIn};
-
 use crate::deciding::byte_of_class;
 use table::Sections;
 
@@ -21,9 +20,7 @@ pub(crate) struct States {
 pub(crate) fn start() -> States
     ensures { λ r. ⌜ r .yes ≡ replicate mostVariables false ⌝ }
 {
-    States {
-        yes: [false; 15],
-    }
+    States { yes: [false; 15] }
 }
 
 // What a transition byte makes of a state: R no, S yes, T the other, - as it was.
@@ -58,7 +55,5 @@ pub(crate) fn moved(image: &[u8], s: Sections, states: States, c: u8) -> States
         yes[i] = turned(b, yes[i]);
         v += 1;
     }
-    States {
-        yes: yes,
-    }
+    States { yes: yes }
 }

@@ -1,11 +1,8 @@
 -- `translation::choosing::context_holds` meets its contract: no context holds, and another is read where it lies and asked for the class after the
 -- whole string.
 use borrow.Author.Needs.{needs}
-use Prim.Native.Nat.{ℕ}
-use mathlib.Core.Path.{_≡_, sym, _∙_, ap, ap₂}
+use mathlib.Core.Path.{sym, _∙_, ap₂}
 use Rattle.table.specs.Search.{member}
-use Rattle.table.specs.Table.{tableIn}
-use Rattle.translation.specs.Choose.{classAfter}
 use Rattle.translation.proofs.Entries.{no-context-holds, context-holds-by}
 use Rattle.translation.proofs.choosing.context_holds.Statement.{statement}
 use Rattle.translation.proofs.choosing.context_holds.Tie as tie
@@ -47,10 +44,12 @@ returns-2 c =
     let start = c .before .before .before .before .before .before .before .before .before .before in
     let a = start .args in
     let number = c .before .before .before .before .before .before .record-byte .ensures .is in
-    rw (context-holds-by (a .image .now) (a .s) (start .pre .0) (a .k) (start .pre .1) (a .setting) (a .rest .now)
-    (λ e. c .before .before .before .before .before .if1 .left (number ∙ e)),
-    ← number,
-    ← (c .before .before .before .before .record-byte2 .ensures .is))
+    rw (
+      context-holds-by (a .image .now) (a .s) (start .pre .0) (a .k) (start .pre .1) (a .setting) (a .rest .now)
+          (λ e. c .before .before .before .before .before .if1 .left (number ∙ e)),
+      ← number,
+      ← (c .before .before .before .before .record-byte2 .ensures .is),
+    )
     (c .holds .ensures ∙ ap₂ member (c .before .before .before .class-after .ensures) (c .before .record-part .ensures .is))
 
 pub context-holds-spec : {M : Type 1} → statement M

@@ -1,10 +1,10 @@
 -- `translation::choosing::search` meets its contract. The loop's invariant: no entry before `k` is admissible.
 use borrow.Author.Needs.{needs}
 use Prim.Native.Nat.{ℕ, _≤_, _<_, _-_}
-use mathlib.Core.Bool.{Bool, true, false}
+use mathlib.Core.Bool.{Bool}
 use mathlib.Core.List.{List}
 use mathlib.Core.Logic.{⊎-elim}
-use mathlib.Core.Path.{_≡_, sym, _∙_}
+use mathlib.Core.Path.{sym, _∙_}
 use native.Mathlib.Omega.{arith}
 use lib.ListN.{length}
 use Rattle.table.specs.Records.{contractions, sectionNamed}
@@ -69,16 +69,15 @@ loop-again c =
     let a = start .args in
     let l = c .before .before .before .loop in
     let there : l .k < a .s .contractions .records = search needs in
-    let begins-is = sym (c .before .begins .ensures) in
-    (
+    let begins-is = sym (c .before .begins .ensures) in (
       omega arith,
       none-more _ _ (l .inv .1)
-      (⊎-elim
-      (λ w.
-      begun (a .image .now) (a .s) (start .pre .0) (l .k) there (a .setting) (statesIn (a .s) (a .states)) (a .rest .now) (begins-is ∙ w .0 .taken)
-      ∙ sym (w .1 .ensures) ∙ w .2 .left)
-      (λ w. not-begun (a .image .now) (a .s) (start .pre .0) (l .k) there (a .setting) (statesIn (a .s) (a .states)) (a .rest .now) (begins-is ∙ w .left))
-      (c .if1 .came)),
+          (⊎-elim
+          (λ w.
+          begun (a .image .now) (a .s) (start .pre .0) (l .k) there (a .setting) (statesIn (a .s) (a .states)) (a .rest .now) (begins-is ∙ w .0 .taken)
+          ∙ sym (w .1 .ensures) ∙ w .2 .left)
+          (λ w. not-begun (a .image .now) (a .s) (start .pre .0) (l .k) there (a .setting) (statesIn (a .s) (a .states)) (a .rest .now) (begins-is ∙ w .left))
+          (c .if1 .came)),
     )
 
 returns-2 : tie.Need-returns-2 Inv-loop μ-loop

@@ -5,7 +5,7 @@ use mathlib.Core.Path.{_≡_, sym, _∙_, ap}
 use native.Mathlib.Omega.{arith}
 use mathlib.Core.List.{List}
 use Prim.Native.Nat.{ℕ}
-use borrow.Author.Tests.{eq-eqb, ne-eqb}
+use borrow.Author.Tests.{ne-eqb}
 use Rattle.translation.specs.Decide.{byteOfClass, ruling}
 use Rattle.translation.proofs.Records.{by-class}
 use Rattle.translation.proofs.deciding.rule.Statement.{statement}
@@ -18,11 +18,16 @@ byte-of-class-requires c κs =
     let d = start .pre .0 .laid .decisions-laid .lies (start .args .k) (start .pre .1) in
     omega arith
 
+-- what the function was entered with
+abbrev entered : tie.After-byte-of-class → tie.Start
+entered c = c .before .before .before
+
 -- the byte that was read is that of the column
 read : (c : tie.After-byte-of-class)
-    → c .byte-of-class .result ≡ byteOfClass (columnAt (c .before .before .before .args .image .now) (c .before .before .before .args .s) (c .before .before .before .args .k) .byClass) (c .before .before .before .args .c)
+    → c .byte-of-class .result
+    ≡ byteOfClass (columnAt (entered c .args .image .now) (entered c .args .s) (entered c .args .k) .byClass) (entered c .args .c)
 read c =
-    let a = c .before .before .before .args in
+    let a = entered c .args in
     c .byte-of-class .ensures ∙ ap (λ (bytes : List ℕ). byteOfClass bytes (a .c)) (sym (by-class (a .image .now) (a .s) (a .k)))
 
 returns : tie.Need-returns
@@ -39,22 +44,26 @@ conditions-hold-requires c κs = search needs
 returns-3 : tie.Need-returns-3
 unfolding ruling
 returns-3 c =
-    rw (← (read (c .before .before .before .before .before)),
-    ne-eqb _ _ (c .before .before .before .before .if1 .left),
-    ne-eqb _ _ (c .before .before .before .if2 .left),
-    c .before .before .if3 .taken,
-    ← (c .before .conditions-hold .ensures),
-    c .if4 .taken)
+    rw (
+      ← (read (c .before .before .before .before .before)),
+      ne-eqb _ _ (c .before .before .before .before .if1 .left),
+      ne-eqb _ _ (c .before .before .before .if2 .left),
+      c .before .before .if3 .taken,
+      ← (c .before .conditions-hold .ensures),
+      c .if4 .taken,
+    )
 
 returns-4 : tie.Need-returns-4
 unfolding ruling
 returns-4 c =
-    rw (← (read (c .before .before .before .before .before)),
-    ne-eqb _ _ (c .before .before .before .before .if1 .left),
-    ne-eqb _ _ (c .before .before .before .if2 .left),
-    c .before .before .if3 .taken,
-    ← (c .before .conditions-hold .ensures),
-    c .if4 .left)
+    rw (
+      ← (read (c .before .before .before .before .before)),
+      ne-eqb _ _ (c .before .before .before .before .if1 .left),
+      ne-eqb _ _ (c .before .before .before .if2 .left),
+      c .before .before .if3 .taken,
+      ← (c .before .conditions-hold .ensures),
+      c .if4 .left,
+    )
 
 conditions-hold-requires-2 : tie.Need-conditions-hold-requires-2
 conditions-hold-requires-2 c κs = search needs
@@ -62,33 +71,39 @@ conditions-hold-requires-2 c κs = search needs
 returns-5 : tie.Need-returns-5
 unfolding ruling
 returns-5 c =
-    rw (← (read (c .before .before .before .before .before .before)),
-    ne-eqb _ _ (c .before .before .before .before .before .if1 .left),
-    ne-eqb _ _ (c .before .before .before .before .if2 .left),
-    ne-eqb _ _ (c .before .before .before .if3 .left),
-    c .before .before .if5 .taken,
-    ← (c .before .conditions-hold2 .ensures),
-    c .if6 .taken)
+    rw (
+      ← (read (c .before .before .before .before .before .before)),
+      ne-eqb _ _ (c .before .before .before .before .before .if1 .left),
+      ne-eqb _ _ (c .before .before .before .before .if2 .left),
+      ne-eqb _ _ (c .before .before .before .if3 .left),
+      c .before .before .if5 .taken,
+      ← (c .before .conditions-hold2 .ensures),
+      c .if6 .taken,
+    )
 
 returns-6 : tie.Need-returns-6
 unfolding ruling
 returns-6 c =
-    rw (← (read (c .before .before .before .before .before .before)),
-    ne-eqb _ _ (c .before .before .before .before .before .if1 .left),
-    ne-eqb _ _ (c .before .before .before .before .if2 .left),
-    ne-eqb _ _ (c .before .before .before .if3 .left),
-    c .before .before .if5 .taken,
-    ← (c .before .conditions-hold2 .ensures),
-    c .if6 .left)
+    rw (
+      ← (read (c .before .before .before .before .before .before)),
+      ne-eqb _ _ (c .before .before .before .before .before .if1 .left),
+      ne-eqb _ _ (c .before .before .before .before .if2 .left),
+      ne-eqb _ _ (c .before .before .before .if3 .left),
+      c .before .before .if5 .taken,
+      ← (c .before .conditions-hold2 .ensures),
+      c .if6 .left,
+    )
 
 returns-7 : tie.Need-returns-7
 unfolding ruling
 returns-7 c =
-    rw (← (read (c .before .before .before .before)),
-    ne-eqb _ _ (c .before .before .before .if1 .left),
-    ne-eqb _ _ (c .before .before .if2 .left),
-    ne-eqb _ _ (c .before .if3 .left),
-    ne-eqb _ _ (c .if5 .left))
+    rw (
+      ← (read (c .before .before .before .before)),
+      ne-eqb _ _ (c .before .before .before .if1 .left),
+      ne-eqb _ _ (c .before .before .if2 .left),
+      ne-eqb _ _ (c .before .if3 .left),
+      ne-eqb _ _ (c .if5 .left),
+    )
 
 pub rule-spec : {M : Type 1} → statement M
 rule-spec =
