@@ -4,20 +4,19 @@ use Prim.Native.Nat.{ℕ, zero, suc, _+_, _-_, _*_, _≤_, _<_}
 use mathlib.Core.List.{List, [], _∷_, _++_, append-assoc, append-nil}
 use mathlib.Core.Path.{_≡_, refl, sym, _∙_, ap, ap₂, subst}
 use native.Mathlib.Omega.{arith}
-use lib.ListN.{length, getD, take, drop, length-append, length-drop, drop-of-length-le}
-use lib.Seq.{drop-cons, drop-drop, take-all}
-use Rattle.table.specs.Numbers.{entrySigns, mostVariables}
+use lib.ListN.{length, take, drop, length-drop, drop-of-length-le}
+use lib.Seq.{drop-drop, take-all}
+use Rattle.table.specs.Numbers.{entrySigns}
 use Rattle.table.specs.Table.{Table, tableIn}
 use Rattle.table.specs.declared.Sections.{Sections}
 use Rattle.translation.specs.Decide.{States, startStates, moved}
 use Rattle.translation.specs.Pieces.{Piece, frontPiece, piecesFrom, piecesIn, printed, signsOf}
 use Rattle.translation.specs.Opened.{Opened}
 use Rattle.translation.specs.States.{statesIn}
-use Rattle.translation.specs.Inside.{Wrote, Made, MadeAs, Consumed}
+use Rattle.translation.specs.Inside.{Wrote, MadeAs, Consumed}
 use Rattle.translation.specs.declared.Setting.{Setting}
 use Rattle.translation.specs.declared.variables.States.{States as Held}
 use Rattle.translation.specs.declared.piecing.Piece.{Piece as MadePiece}
-use Rattle.translation.specs.declared.piecing.Counts.{Counts}
 use Rattle.translation.proofs.Writing.{wrote-nothing, wrote-then}
 use Rattle.translation.proofs.Fronts.{front-fits}
 

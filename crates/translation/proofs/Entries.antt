@@ -1,18 +1,17 @@
 -- An entry of an opened image, read where it lies: its string and its signs are whole, and its right context holds just where the bytes say so.
-use Prim.Native.Nat.{ℕ, pred, _+_, _-_, _≤_, _<_}
-use mathlib.Core.Bool.{Bool, true, false, _&&_, _||_}
+use Prim.Native.Nat.{ℕ, pred, _-_, _<_}
+use mathlib.Core.Bool.{Bool, true, false, _&&_}
 use mathlib.Core.List.{List, []}
-use mathlib.Core.Logic.{_≢_, _⊎_, inl, inr}
-use mathlib.Core.Path.{_≡_, refl, sym, _∙_, ap}
+use mathlib.Core.Logic.{_≢_, inl, inr}
+use mathlib.Core.Path.{_≡_, refl, sym, _∙_}
 use native.Mathlib.Numerals.{sub-one}
 use native.Mathlib.Omega.{arith}
-use lib.Dec.{eqb}
 use lib.ListN.{length, getD}
 use borrow.Author.Tests.{eq-eqb, ne-eqb}
-use Rattle.table.specs.Numbers.{lengthByte, stringByte, contextByte, shiftByte, signsByte, entrySigns, leastLength, mostLength, leastShift, noContext, contextSize}
+use Rattle.table.specs.Numbers.{lengthByte, stringByte, contextByte, signsByte, entrySigns, leastShift, noContext, contextSize}
 use Rattle.table.specs.Search.{member}
 use Rattle.table.specs.Records.{contractions, sectionNamed}
-use Rattle.table.specs.Sections.{offset, recordByte, recordPart}
+use Rattle.table.specs.Sections.{recordByte}
 use Rattle.table.specs.Promises.{partWithin}
 use Rattle.table.specs.Refusals.{Between, ContextExists, RightEntry}
 use Rattle.table.specs.Table.{tableIn, entryAt, contextAt}

@@ -4,7 +4,7 @@ use Prim.Native.Nat.{ℕ, _≤_, _<_}
 use mathlib.Core.Bool.{Bool}
 use mathlib.Core.List.{List, [], _∷_}
 use mathlib.Core.Option.{Option, none, some}
-use mathlib.Core.Path.{_≡_, refl, sym, _∙_, ap, subst}
+use mathlib.Core.Path.{_≡_, refl, sym, ap, subst}
 use native.Mathlib.Decide.{decLt}
 use native.Mathlib.Omega.{arith}
 use lib.ListN.{length, getD}
@@ -18,7 +18,7 @@ use Rattle.translation.specs.Decide.{States}
 use Rattle.translation.specs.Choose.{admissible, noEntry, entry, choice}
 use Rattle.translation.specs.Pieces.{Piece, pieceBy, frontPiece, printed}
 use Rattle.translation.specs.Opened.{Opened}
-use Rattle.translation.specs.Inside.{Made, MadeAs}
+use Rattle.translation.specs.Inside.{MadeByEntry, MadeByLetter, MadeAs}
 use Rattle.translation.specs.declared.Setting.{Setting}
 use Rattle.translation.specs.declared.piecing.Piece.{Piece as MadePiece}
 use Rattle.translation.proofs.Lists.{clash, getD-there}
@@ -51,21 +51,20 @@ module _ (image : List ℕ) (s : Sections) (setting : Setting) (states : States)
 
   module _ {before : List ℕ} {n : ℕ} {after : List ℕ} {made : MadePiece} where
     pub made-by-entry : (k : ℕ) → chosen ≡ some k
-        → Made (entryAt image s k .shift) (entryAt image s k .class) (entryAt image s k .signs) before n after made
+        → MadeByEntry (entryAt image s k) before n after made
         → MadeAs front before n after made
     unfolding pieceBy
     made-by-entry k e m =
         subst (λ (p : Piece). MadeAs p before n after made) (sym (front-is (some k) e))
-        (subst (λ (x : Entry). Made (x .shift) (x .class) (x .signs) before n after made) (sym (entry-at image s k noEntry (chosen-there k e))) m)
+        (subst (λ (x : Entry). MadeByEntry x before n after made) (sym (entry-at image s k noEntry (chosen-there k e))) m)
 
     pub made-by-letter : 0 < length rest → chosen ≡ none
-        → Made 1 (letterFor (tableIn image s .letters) (getD rest 0 0) .class) (letterFor (tableIn image s .letters) (getD rest 0 0) .sign ∷ []) before n after made
+        → MadeByLetter (letterFor (tableIn image s .letters) (getD rest 0 0)) before n after made
         → MadeAs front before n after made
     unfolding pieceBy
     made-by-letter l e m =
         subst (λ (p : Piece). MadeAs p before n after made) (sym (front-is none e))
-        (subst (λ (c : ℕ). Made 1 (letterFor (tableIn image s .letters) c .class) (letterFor (tableIn image s .letters) c .sign ∷ []) before n after made)
-        (getD-there rest 0 0 blank l) m)
+        (subst (λ (c : ℕ). MadeByLetter (letterFor (tableIn image s .letters) c) before n after made) (getD-there rest 0 0 blank l) m)
 
   -- ---- How much it takes and prints
 

@@ -19,4 +19,6 @@ pub mod Printing
 pub mod Fronts
 pub mod Cursor
 pub mod Outcomes
+pub mod Promises
+pub mod Answered
 pub mod Accepted

@@ -3,10 +3,10 @@
 use Prim.Native.Nat.{ℕ, _+_, _≤_, _<_}
 use mathlib.Core.Bool.{Bool, false}
 use mathlib.Core.List.{List, []}
-use mathlib.Core.Path.{_≡_, refl, sym, _∙_, ap, subst}
+use mathlib.Core.Path.{_≡_, refl, sym, _∙_, ap}
 use native.Mathlib.Decide.{ℕ-discrete}
 use native.Mathlib.Omega.{arith}
-use lib.ListN.{length, getD, take, drop, set, replicate, length-set, length-replicate, getD-replicate}
+use lib.ListN.{length, getD, take, set, replicate, length-set, length-replicate, getD-replicate}
 use lib.Seq.{ext-getD, length-take-le, getD-take, getD-set-same, getD-set-other}
 use Rattle.table.specs.Numbers.{mostVariables}
 use Rattle.table.specs.Sections.{recordPart}
@@ -14,8 +14,7 @@ use Rattle.table.specs.Table.{tableIn, transitionAt}
 use Rattle.table.specs.declared.Sections.{Sections}
 use Rattle.table.proofs.Reading.{transitions-long}
 use Rattle.table.proofs.Lists.{length-listOf, getD-listOf}
-use Rattle.translation.specs.Decide.{States, state, startStates, byteOfClass, turned, moved}
-use Rattle.translation.specs.Opened.{Opened}
+use Rattle.translation.specs.Decide.{state, startStates, byteOfClass, turned, moved}
 use Rattle.translation.specs.States.{statesIn}
 use Rattle.translation.specs.declared.variables.States.{States as Held}
 
@@ -82,7 +81,10 @@ module _ (image : List ℕ) (s : Sections) where
   start-held held e l =
       rw (e, transitions-long image s)
       (ext-getD false (take n (replicate mostVariables false)) (replicate n false) (long ∙ sym (length-replicate n false))
-      (λ j u. let h : j < n = omega (arith, long) in getD-take n (replicate mostVariables false) j false h ∙ getD-replicate mostVariables j false false (omega arith) ∙ sym (getD-replicate n j false false h)))
+      (λ j u.
+      let h : j < n = omega (arith, long) in
+      getD-take n (replicate mostVariables false) j false h ∙ getD-replicate mostVariables j false false (omega arith)
+      ∙ sym (getD-replicate n j false false h)))
     where
       n : ℕ
       n = s .transitions .records

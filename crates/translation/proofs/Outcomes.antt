@@ -1,10 +1,9 @@
 -- The outcomes of a translation, case by case: each refusal with the signs as they were, and the pieces with their signs at the front.
 use Prim.Native.Nat.{ℕ, _≤_, _<_}
-use mathlib.Core.Bool.{Bool, true, false}
-use mathlib.Core.List.{List, _++_}
+use mathlib.Core.List.{List}
 use mathlib.Core.Option.{Option, none, some}
-use mathlib.Core.Path.{_≡_, refl, sym, _∙_, ap, ap₂, subst}
-use lib.ListN.{length, drop}
+use mathlib.Core.Path.{_≡_, refl, sym, ap, ap₂, subst}
+use lib.ListN.{length}
 use borrow.Author.Tests.{le-leb, lt-leb}
 use Rattle.table.specs.Table.{Table, tableOf}
 use Rattle.table.specs.Verdict.{verdictOf}
@@ -14,7 +13,7 @@ use Rattle.table.specs.declared.Verdict.the-variants.{Accepted, Refused}
 use Rattle.translation.specs.Numbers.{mostText}
 use Rattle.translation.specs.Collapse.{collapsed}
 use Rattle.translation.specs.Letters.{firstUnknown}
-use Rattle.translation.specs.Pieces.{piecesIn, piecesOf, signsOf}
+use Rattle.translation.specs.Pieces.{piecesIn, piecesOf}
 use Rattle.translation.specs.Inside.{Consumed}
 use Rattle.translation.specs.Translate.{Outcome, Ends, refused, done, translateBy, translateFollowed}
 use Rattle.translation.specs.declared.Setting.{Setting}
@@ -43,12 +42,16 @@ module _ (table : Table) (setting : Setting) (text before : List ℕ) where
     unfolding by-unknown refused
     unknown-at i e = subst (λ (o : Outcome). Ends o (Unknown i) before) (sym (judged (some i) e)) (record { answers = refl; leaves = refl })
 
+    pub done-by : firstUnknown (table .letters) text ≡ none → translateBy table setting text before ≡ done before (piecesOf table setting text)
+    unfolding by-unknown
+    done-by e = judged none e
+
     pub all-done : {after : List ℕ} {counts : Counts} → firstUnknown (table .letters) text ≡ none
         → Consumed (piecesIn table setting (collapsed text)) before after counts
         → Ends (translateBy table setting text before) (Done (counts .pieces) (counts .signs)) after
-    unfolding by-unknown done piecesOf
+    unfolding done piecesOf
     all-done {after} {counts} e c =
-        subst (λ (o : Outcome). Ends o (Done (counts .pieces) (counts .signs)) after) (sym (judged none e))
+        subst (λ (o : Outcome). Ends o (Done (counts .pieces) (counts .signs)) after) (sym (done-by e))
         (record { answers = ap₂ Done (c .counted) (front-long (c .wrote)); leaves = front-and-beyond (c .wrote) })
 
 -- ---- The table
@@ -62,7 +65,10 @@ module _ (setting : Setting) (image text before : List ℕ) where
   table-refused fault e =
       subst (λ (o : Outcome). Ends o (TableRefused fault) before) (sym (ap by-verdict e)) (record { answers = refl; leaves = refl })
 
+  pub followed-by : verdictOf image ≡ Accepted → translateFollowed setting image text before ≡ translateBy (tableOf image) setting text before
+  unfolding translateFollowed by-verdict
+  followed-by e = ap by-verdict e
+
   pub table-accepted : {answer : Translation} {after : List ℕ} → verdictOf image ≡ Accepted
       → Ends (translateBy (tableOf image) setting text before) answer after → Ends (translateFollowed setting image text before) answer after
-  unfolding translateFollowed by-verdict
-  table-accepted {answer} {after} e ends = subst (λ (o : Outcome). Ends o answer after) (sym (ap by-verdict e)) ends
+  table-accepted {answer} {after} e ends = subst (λ (o : Outcome). Ends o answer after) (sym (followed-by e)) ends

@@ -63,7 +63,8 @@ module _ {before : List ℕ} {n : ℕ} {xs middle : List ℕ} {k : ℕ} (first :
       record {
         bytes =
             second .bytes
-            ∙ rw (before-next, beyond-next (length ys), append-assoc (take n before) xs ys, length-append, first .place) (ap (λ (i : ℕ). take n before ++ (xs ++ ys) ++ drop i before) same);
+            ∙ rw (before-next, beyond-next (length ys), append-assoc (take n before) xs ys, length-append, first .place)
+            (ap (λ (i : ℕ). take n before ++ (xs ++ ys) ++ drop i before) same);
         place = rw (second .place, first .place, length-append) (omega arith);
         room = let l = wrote-long in let r = second .room in omega arith;
       }

@@ -1,9 +1,10 @@
 -- What the functions inside this crate promise each other. No public promise rests on these definitions: they say what a call adds and what is still
 -- to come, in the words of the definitions.
 use Prim.Native.Nat.{ℕ, _+_, _≤_}
-use mathlib.Core.List.{List, _∷_, _++_}
+use mathlib.Core.List.{List, [], _∷_, _++_}
 use mathlib.Core.Path.{_≡_}
 use lib.ListN.{length, take, drop}
+use Rattle.table.specs.Table.{Letter, Entry}
 use Rattle.translation.specs.Collapse.{unbarred, thinned}
 use Rattle.translation.specs.Pieces.{Piece, printed, signsOf}
 use Rattle.translation.specs.declared.collapsing.Run.{Run}
@@ -39,7 +40,14 @@ pub record Made (shift class : ℕ) (signs before : List ℕ) (n : ℕ) (after :
   pub class-is : made .class ≡ class
   pub wrote : Wrote before n (printed signs) after (made .next)
 
--- the piece is made as the definition has it
+-- a piece is made by an entry, or by the record of a character alone
+abbrev pub MadeByEntry : Entry → List ℕ → ℕ → List ℕ → MadePiece → Type 0
+MadeByEntry e before n after made = Made (e .shift) (e .class) (e .signs) before n after made
+
+abbrev pub MadeByLetter : Letter → List ℕ → ℕ → List ℕ → MadePiece → Type 0
+MadeByLetter l before n after made = Made 1 (l .class) (l .sign ∷ []) before n after made
+
+-- a piece is made as the definition has it
 abbrev pub MadeAs : Piece → List ℕ → ℕ → List ℕ → MadePiece → Type 0
 MadeAs p before n after made = Made (p .shift) (p .class) (p .signs) before n after made
 

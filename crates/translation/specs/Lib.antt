@@ -10,10 +10,10 @@ pub mod States
 pub mod Inside
 pub mod Translate
 pub mod Promises
-pub mod Computing
 pub mod Refusals
 pub mod Signs
 pub mod Sound
 pub mod Admissible
 pub mod Chosen
 pub mod Moved
+pub mod Computing

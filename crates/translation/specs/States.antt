@@ -1,5 +1,4 @@
 -- The states and the rulings of the code, as the definitions have them.
-use Prim.Native.Nat.{ℕ}
 use lib.ListN.{take}
 use Rattle.table.specs.declared.Sections.{Sections}
 use Rattle.translation.specs.Decide.{States, Ruling, accept, reject, next}

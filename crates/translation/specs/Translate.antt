@@ -1,15 +1,14 @@
 -- 'What comes back', as far as translation goes: refusals 1 to 4, 6 and 7, or the pieces and their signs; and the signs as lent, afterwards.
 use Prim.Native.Nat.{ℕ}
-use mathlib.Core.Bool.{Bool, true, false}
+use mathlib.Core.Bool.{true, false}
 use mathlib.Core.List.{List, _++_}
-use mathlib.Core.Option.{Option, none, some}
+use mathlib.Core.Option.{none, some}
 use mathlib.Core.Path.{_≡_}
 use lib.ListN.{length, drop}
 use lib.Dec.{leb}
 use Rattle.table.specs.Numbers.{blank}
 use Rattle.table.specs.Table.{Table, tableOf}
 use Rattle.table.specs.Verdict.{verdictOf}
-use Rattle.table.specs.declared.Verdict.{Verdict}
 use Rattle.table.specs.declared.Verdict.the-variants.{Accepted, Refused}
 use Rattle.translation.specs.Numbers.{mostText}
 use Rattle.translation.specs.Letters.{firstUnknown}

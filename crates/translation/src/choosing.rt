@@ -45,7 +45,8 @@ fn begins(image: &[u8], entries: Section, k: u16, rest: &[u8]) -> bool
     requires { ⌜ offset entries k + entrySize ≤ length (now image) ⌝ }
     requires { ⌜ Between leastLength mostLength (recordByte (now image) entries k lengthByte) ⌝ }
     requires { ⌜ 0 < length (now rest) ⌝ }
-    ensures { λ r. ⌜ r ≡ begins (recordPart (now (image .entry)) entries k stringByte (recordByte (now (image .entry)) entries k lengthByte)) (now (rest .entry)) ⌝ }
+    ensures { λ r. ⌜ r ≡ begins (recordPart (now (image .entry)) entries k stringByte (recordByte (now (image .entry)) entries k lengthByte))
+        (now (rest .entry)) ⌝ }
 {
     if table::record_byte(image, entries, k, 1) != rest[0] {
         return false;

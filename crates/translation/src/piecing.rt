@@ -2,8 +2,8 @@
 
 ghost use mathlib.Core.Path.{_≡_};
 ghost use mathlib.Core.Bool.{cond};
-ghost use mathlib.Core.List.{List, [], _∷_};
-ghost use Prim.Native.Nat.{ℕ, _+_, _*_, _≤_, _<_};
+ghost use mathlib.Core.List.{[], _∷_};
+ghost use Prim.Native.Nat.{_+_, _*_, _≤_, _<_};
 ghost use lib.Dec.{eqb};
 ghost use lib.ListN.{length};
 ghost use Rattle.table.specs.Numbers.{entrySigns, otherBlank, blankCell};
@@ -12,7 +12,7 @@ ghost use Rattle.translation.specs.Letters.{letterFor};
 ghost use Rattle.translation.specs.Pieces.{printed, frontPiece, piecesIn};
 ghost use Rattle.translation.specs.Opened.{Opened};
 ghost use Rattle.translation.specs.States.{statesIn};
-ghost use Rattle.translation.specs.Inside.{Wrote, Made, MadeAs, Consumed};
+ghost use Rattle.translation.specs.Inside.{Wrote, MadeByEntry, MadeByLetter, MadeAs, Consumed};
 use crate::Found;
 use crate::Setting;
 use crate::alphabet::class_of;
@@ -73,8 +73,7 @@ fn print_all(list: &[u8], signs: &mut [u8], at: usize) -> usize
 fn by_entry(image: &[u8], s: Sections, k: u16, signs: &mut [u8], at: usize) -> Piece
     requires { ⌜ Opened (now image) s ⌝ }
     requires { ⌜ (k < s .contractions .records) × (at + entrySigns ≤ length (now signs)) ⌝ }
-    ensures { λ r. ⌜ Made (entryAt (now (image .entry)) s k .shift) (entryAt (now (image .entry)) s k .class) (entryAt (now (image .entry)) s k .signs)
-        (now (signs .entry)) at (now (signs .exit)) r ⌝ }
+    ensures { λ r. ⌜ MadeByEntry (entryAt (now (image .entry)) s k) (now (signs .entry)) at (now (signs .exit)) r ⌝ }
 {
     let entries = s.contractions;
     let next = print_all(table::record_part(image, entries, k, 14, 4), signs, at);
@@ -88,8 +87,7 @@ fn by_entry(image: &[u8], s: Sections, k: u16, signs: &mut [u8], at: usize) -> P
 // The piece of a character alone: its class and its sign.
 fn by_letter(image: &[u8], s: Sections, c: u8, signs: &mut [u8], at: usize) -> Piece
     requires { ⌜ at < length (now signs) ⌝ }
-    ensures { λ r. ⌜ Made 1 (letterFor (tableIn (now (image .entry)) s .letters) c .class) (letterFor (tableIn (now (image .entry)) s .letters) c .sign ∷ [])
-        (now (signs .entry)) at (now (signs .exit)) r ⌝ }
+    ensures { λ r. ⌜ MadeByLetter (letterFor (tableIn (now (image .entry)) s .letters) c) (now (signs .entry)) at (now (signs .exit)) r ⌝ }
 {
     let next = print(sign_of(image, s, c), signs, at);
     Piece {

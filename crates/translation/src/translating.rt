@@ -1,6 +1,5 @@
 // The whole call: the table is judged, then the text, and then the text is collapsed and its pieces print their signs.
 
-ghost use mathlib.Core.Path.{_≡_};
 ghost use Prim.Native.Nat.{_*_, _≤_};
 ghost use lib.ListN.{length};
 ghost use Rattle.table.specs.Numbers.{entrySigns};

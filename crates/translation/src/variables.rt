@@ -2,7 +2,7 @@
 
 ghost use mathlib.Core.Path.{_≡_};
 ghost use mathlib.Core.Bool.{false};
-ghost use lib.ListN.{length, replicate};
+ghost use lib.ListN.{replicate};
 ghost use Rattle.table.specs.Numbers.{mostVariables};
 ghost use Rattle.table.specs.Table.{tableIn};
 ghost use Rattle.translation.specs.Decide.{turned, moved};

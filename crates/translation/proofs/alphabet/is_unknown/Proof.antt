@@ -2,12 +2,9 @@
 -- nothing.
 use borrow.Author.Needs.{needs}
 use mathlib.Core.Path.{sym, _∙_, ap}
-use mathlib.Core.Bool.{not, _&&_}
 use borrow.Author.Tests.{eq-eqb, ne-eqb}
-use Rattle.table.specs.Search.{isThere}
-use Rattle.table.specs.Table.{tableIn}
 use Rattle.translation.specs.Collapse.{unfed}
-use Rattle.translation.specs.Letters.{letterOf, isUnknown}
+use Rattle.translation.specs.Letters.{isUnknown}
 use Rattle.translation.specs.Found.{found}
 use Rattle.translation.proofs.alphabet.is_unknown.Statement.{statement}
 use Rattle.translation.proofs.alphabet.is_unknown.Tie as tie

@@ -3,7 +3,7 @@ use borrow.Author.Needs.{needs}
 use Prim.Native.Nat.{ℕ, _≤_, _-_}
 use mathlib.Core.Bool.{Bool}
 use mathlib.Core.List.{List}
-use mathlib.Core.Path.{_≡_, sym, _∙_, ap}
+use mathlib.Core.Path.{sym, _∙_}
 use native.Mathlib.Omega.{arith}
 use lib.Dec.{eqb}
 use borrow.Author.Tests.{eq-eqb, ne-eqb}
@@ -46,7 +46,9 @@ loop-less : tie.Need-loop-less Inv-loop μ-loop
 loop-less c = omega arith
 
 loop-again : tie.Need-loop-again Inv-loop μ-loop
-loop-again c = (omega arith, none-more _ _ (c .before .before .before .loop .inv .1) (ne-eqb _ _ (λ e. c .if1 .left (c .before .record-byte .ensures .is ∙ e))))
+loop-again c =
+    let other = ne-eqb _ _ (λ e. c .if1 .left (c .before .record-byte .ensures .is ∙ e)) in
+    (omega arith, none-more _ _ (c .before .before .before .loop .inv .1) other)
 
 returns-2 : tie.Need-returns-2 Inv-loop μ-loop
 returns-2 c =

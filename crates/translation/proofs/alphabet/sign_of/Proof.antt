@@ -2,7 +2,6 @@
 use borrow.Author.Needs.{needs}
 use mathlib.Core.Path.{sym, _∙_, ap}
 use Rattle.table.specs.Table.{Letter, letterAt}
-use Rattle.translation.specs.Letters.{letterFor}
 use Rattle.translation.specs.Found.{found}
 use Rattle.translation.proofs.Records.{letter-for-found, letter-for-missing}
 use Rattle.translation.proofs.alphabet.sign_of.Statement.{statement}

@@ -1,6 +1,5 @@
 -- `translation::choosing::allowed` meets its contract: the right context first, and then the decision table.
 use borrow.Author.Needs.{needs}
-use mathlib.Core.Path.{_≡_, sym, _∙_, ap}
 use borrow.Author.Tests.{not-true, not-false}
 use Rattle.table.specs.Table.{entryAt}
 use Rattle.translation.proofs.choosing.allowed.Statement.{statement}

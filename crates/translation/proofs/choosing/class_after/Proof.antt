@@ -1,7 +1,6 @@
 -- `translation::choosing::class_after` meets its contract: past the end of the rest `getD` is its default, the symbol that follows.
 use borrow.Author.Needs.{needs}
 use mathlib.Core.Path.{sym, _∙_, ap}
-use Prim.Native.Nat.{ℕ}
 use Rattle.table.specs.Table.{tableIn}
 use lib.ListN.{List·getD-eq-default}
 use Rattle.translation.specs.Letters.{classOf}

@@ -1,11 +1,8 @@
 -- `translation::choosing::context_holds` meets its contract: no context holds, and another is read where it lies and asked for the class after the
 -- whole string.
 use borrow.Author.Needs.{needs}
-use Prim.Native.Nat.{ℕ}
-use mathlib.Core.Path.{_≡_, sym, _∙_, ap, ap₂}
+use mathlib.Core.Path.{sym, _∙_, ap₂}
 use Rattle.table.specs.Search.{member}
-use Rattle.table.specs.Table.{tableIn}
-use Rattle.translation.specs.Choose.{classAfter}
 use Rattle.translation.proofs.Entries.{no-context-holds, context-holds-by}
 use Rattle.translation.proofs.choosing.context_holds.Statement.{statement}
 use Rattle.translation.proofs.choosing.context_holds.Tie as tie

@@ -1,10 +1,7 @@
 -- `translation::collapsing::thin` meets its contract: a bar, and a blank where none is kept any more, are passed over, and any other character is
 -- written, in the four cases of the definitions.
 use borrow.Author.Needs.{needs}
-use mathlib.Core.Path.{sym, _∙_, ap, subst}
-use Prim.Native.Nat.{ℕ, _+_, _-_, _<_}
-use Rattle.translation.specs.Collapse.{keptAfter}
-use Rattle.translation.specs.Inside.{Thins}
+use mathlib.Core.Path.{sym, _∙_}
 use Rattle.translation.proofs.Thinned.{bar-goes, blank-goes, blank-stays, other-stays, passed-over, written}
 use Rattle.translation.proofs.collapsing.thin.Statement.{statement}
 use Rattle.translation.proofs.collapsing.thin.Tie as tie

@@ -1,5 +1,4 @@
 -- `translation::collapsing::unfed` meets its contract: the two tests are the same.
-use mathlib.Core.Path.{sym}
 use borrow.Author.Tests.{eq-eqb, ne-eqb}
 use Rattle.translation.specs.Collapse.{unfed}
 use Rattle.translation.proofs.collapsing.unfed.Statement.{statement}

@@ -1,6 +1,6 @@
 -- `translation::deciding::byte_of_class` meets its contract: below the number of classes the byte is read, and beyond it nothing stands.
 use borrow.Author.Needs.{needs}
-use Prim.Native.Nat.{ℕ, pred, _+_, _≤_}
+use Prim.Native.Nat.{pred, _+_, _≤_}
 use mathlib.Core.Path.{_≡_, sym, _∙_, ap}
 use native.Mathlib.Omega.{arith}
 use lib.ListN.{length, List·getD-eq-default}

@@ -1,8 +1,8 @@
 -- `translation::deciding::condition_holds` meets its contract: the condition stands behind the bytes of the classes, and the state is that of the
 -- variable.
 use borrow.Author.Needs.{needs}
-use Prim.Native.Nat.{ℕ, _+_, _≤_, _<_}
-use mathlib.Core.Path.{_≡_, sym, _∙_, ap, ap₂}
+use Prim.Native.Nat.{_+_, _≤_, _<_}
+use mathlib.Core.Path.{sym, _∙_, ap₂}
 use native.Mathlib.Omega.{arith}
 use lib.ListN.{length}
 use lib.Seq.{getD-take}

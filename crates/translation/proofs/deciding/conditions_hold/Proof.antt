@@ -1,6 +1,6 @@
 -- `translation::deciding::conditions_hold` meets its contract. The loop's invariant: no variable before `v` fails its condition.
 use borrow.Author.Needs.{needs}
-use Prim.Native.Nat.{ℕ, _+_, _≤_, _<_, _-_}
+use Prim.Native.Nat.{ℕ, _≤_, _<_, _-_}
 use mathlib.Core.Bool.{Bool, not}
 use mathlib.Core.List.{List}
 use mathlib.Core.Option.{Option}
@@ -9,7 +9,6 @@ use native.Mathlib.Omega.{arith}
 use lib.ListN.{length, getD}
 use Rattle.table.specs.Numbers.{dash}
 use Rattle.table.specs.Search.{isThere}
-use Rattle.table.specs.Sections.{offset}
 use Rattle.table.specs.Table.{columnAt}
 use Rattle.table.specs.declared.Sections.{Sections}
 use Rattle.translation.specs.Decide.{States, state, conditionHolds, conditionsHold}

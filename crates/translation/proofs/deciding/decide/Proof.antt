@@ -2,7 +2,7 @@
 use borrow.Author.Needs.{needs}
 use Prim.Native.Nat.{ℕ, _+_, _-_, _≤_, _<_}
 use mathlib.Core.Bool.{Bool, true, false}
-use mathlib.Core.List.{List, _∷_}
+use mathlib.Core.List.{List}
 use mathlib.Core.Path.{_≡_, refl, sym, _∙_, ap}
 use native.Mathlib.Omega.{arith}
 use lib.ListN.{drop}
@@ -42,21 +42,23 @@ rule-requires c κs = search needs
 enum-told : tie.Need-enum-told Inv-loop μ-loop
 enum-told c = search needs
 
+-- what the function was entered with
+abbrev entered : tie.After-rule Inv-loop μ-loop → tie.Start Inv-loop μ-loop
+entered c = c .before .before .before .before .before
+
 -- the ruling of column `k`, as the code has it, and what the columns from `k` on decide by it
 ruled : (c : tie.After-rule Inv-loop μ-loop) (o : Ruling) → said (c .rule .result) ≡ o
-    → decided (tableIn (c .before .before .before .before .before .args .image .now) (c .before .before .before .before .before .args .s) .decisions)
-    (statesIn (c .before .before .before .before .before .args .s) (c .before .before .before .before .before .args .states))
-    (c .before .before .before .before .before .args .c)
+    → decided (tableIn (entered c .args .image .now) (entered c .args .s) .decisions)
+    (statesIn (entered c .args .s) (entered c .args .states)) (entered c .args .c)
     ≡ elim o [
       | accept ↦ true
       | reject ↦ false
       | next ↦
-          decidedFrom (c .before .before .before .before .before .args .image .now) (c .before .before .before .before .before .args .s)
-          (statesIn (c .before .before .before .before .before .args .s) (c .before .before .before .before .before .args .states))
-          (c .before .before .before .before .before .args .c) (c .before .before .loop .k + 1)
+          decidedFrom (entered c .args .image .now) (entered c .args .s) (statesIn (entered c .args .s) (entered c .args .states))
+          (entered c .args .c) (c .before .before .loop .k + 1)
     ]
 ruled c o e =
-    let a = c .before .before .before .before .before .args in
+    let a = entered c .args in
     sym (c .before .before .loop .inv .1)
     ∙ decided-by (a .image .now) (a .s) (statesIn (a .s) (a .states)) (a .c) (c .before .before .loop .k) o (search needs)
     (sym (c .rule .ensures) ∙ e)
@@ -86,7 +88,8 @@ returns-3 : tie.Need-returns-3 Inv-loop μ-loop
 unfolding decided
 returns-3 c =
     let a = c .before .before .before .before .args in
-    sym (ap (λ (columns : List Column). decided columns (statesIn (a .s) (a .states)) (a .c)) (columns-end (a .image .now) (a .s) (c .before .loop .k) (search needs)))
+    let none-left = columns-end (a .image .now) (a .s) (c .before .loop .k) (search needs) in
+    sym (ap (λ (columns : List Column). decided columns (statesIn (a .s) (a .states)) (a .c)) none-left)
     ∙ c .before .loop .inv .1
 
 pub decide-spec : {M : Type 1} → statement M

@@ -5,7 +5,7 @@ use mathlib.Core.Path.{_≡_, sym, _∙_, ap}
 use native.Mathlib.Omega.{arith}
 use mathlib.Core.List.{List}
 use Prim.Native.Nat.{ℕ}
-use borrow.Author.Tests.{eq-eqb, ne-eqb}
+use borrow.Author.Tests.{ne-eqb}
 use Rattle.translation.specs.Decide.{byteOfClass, ruling}
 use Rattle.translation.proofs.Records.{by-class}
 use Rattle.translation.proofs.deciding.rule.Statement.{statement}
@@ -18,11 +18,16 @@ byte-of-class-requires c κs =
     let d = start .pre .0 .laid .decisions-laid .lies (start .args .k) (start .pre .1) in
     omega arith
 
+-- what the function was entered with
+abbrev entered : tie.After-byte-of-class → tie.Start
+entered c = c .before .before .before
+
 -- the byte that was read is that of the column
 read : (c : tie.After-byte-of-class)
-    → c .byte-of-class .result ≡ byteOfClass (columnAt (c .before .before .before .args .image .now) (c .before .before .before .args .s) (c .before .before .before .args .k) .byClass) (c .before .before .before .args .c)
+    → c .byte-of-class .result
+    ≡ byteOfClass (columnAt (entered c .args .image .now) (entered c .args .s) (entered c .args .k) .byClass) (entered c .args .c)
 read c =
-    let a = c .before .before .before .args in
+    let a = entered c .args in
     c .byte-of-class .ensures ∙ ap (λ (bytes : List ℕ). byteOfClass bytes (a .c)) (sym (by-class (a .image .now) (a .s) (a .k)))
 
 returns : tie.Need-returns

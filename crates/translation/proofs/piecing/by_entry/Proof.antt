@@ -1,11 +1,9 @@
 -- `translation::piecing::by_entry` meets its contract: the four signs are printed where they lie in the entry, and its shift and class are read.
 use borrow.Author.Needs.{needs}
-use Prim.Native.Nat.{ℕ, _≤_}
 use mathlib.Core.Path.{_≡_, _∙_, ap}
 use native.Mathlib.Omega.{arith}
 use lib.ListN.{length}
 use Rattle.table.specs.Table.{entryAt}
-use Rattle.translation.specs.Inside.{Wrote}
 use Rattle.translation.proofs.Entries.{signs-long, signs-read}
 use Rattle.translation.proofs.piecing.by_entry.Statement.{statement}
 use Rattle.translation.proofs.piecing.by_entry.Tie as tie
@@ -13,18 +11,22 @@ use Rattle.translation.proofs.piecing.by_entry.Tie as tie
 record-part-requires : tie.Need-record-part-requires
 record-part-requires c κs = search needs
 
+-- what the function was entered with
+abbrev entered : tie.After-record-part → tie.Start
+entered c = c .before .before .before .before
+
 -- the part that is read is the entry's signs
 read : (c : tie.After-record-part)
-    → c .record-part .result .now
-    ≡ entryAt (c .before .before .before .before .args .image .now) (c .before .before .before .before .args .s) (c .before .before .before .before .args .k) .signs
+    → c .record-part .result .now ≡ entryAt (entered c .args .image .now) (entered c .args .s) (entered c .args .k) .signs
 read c =
-    let start = c .before .before .before .before in
-    c .record-part .ensures .is ∙ signs-read (start .args .image .now) (start .args .s) (start .pre .0) (start .args .k) (start .pre .1 .0)
+    let a = entered c .args in
+    c .record-part .ensures .is ∙ signs-read (a .image .now) (a .s) (entered c .pre .0) (a .k) (entered c .pre .1 .0)
 
 print-all-requires : tie.Need-print-all-requires
 print-all-requires c κs =
-    let start = c .before .before .before .before .before in
-    let four = ap length (read (c .before)) ∙ signs-long (start .args .image .now) (start .args .s) (start .pre .0) (start .args .k) (start .pre .1 .0) in
+    let start = entered (c .before) in
+    let a = start .args in
+    let four = ap length (read (c .before)) ∙ signs-long (a .image .now) (a .s) (start .pre .0) (a .k) (start .pre .1 .0) in
     let room = start .pre .1 .1 in
     omega arith
 

@@ -1,9 +1,8 @@
 -- `translation::piecing::consume` meets its contract. The loop's invariant, `Piecing`: the signs printed so far, and then those of the pieces to come from
 -- the cursor on, are the signs of all pieces; and so with their number.
 use borrow.Author.Needs.{needs}
-use Prim.Native.Nat.{ℕ, _+_, _-_, _*_, _≤_, _<_}
+use Prim.Native.Nat.{ℕ, _+_, _-_, _≤_, _<_}
 use mathlib.Core.List.{List}
-use mathlib.Core.Path.{_≡_, sym, ap, subst}
 use native.Mathlib.Omega.{arith}
 use lib.ListN.{length, drop, length-drop}
 use Rattle.table.specs.Table.{tableIn}
@@ -12,13 +11,14 @@ use Rattle.translation.specs.States.{statesIn}
 use Rattle.translation.specs.Inside.{MadeAs}
 use Rattle.translation.proofs.Moving.{start-held}
 use Rattle.translation.proofs.Writing.{wrote-long}
-use Rattle.translation.proofs.Fronts.{Fits, front-fits}
+use Rattle.translation.proofs.Fronts.{front-fits}
 use Rattle.translation.proofs.Cursor.{rest-lent, Piecing, piecing-starts, piecing-goes-on, piecing-ends}
 use Rattle.translation.proofs.piecing.consume.Statement.{statement}
 use Rattle.translation.proofs.piecing.consume.Tie as tie
 
 abbrev Inv-loop : tie.InvT-loop
-Inv-loop image s setting text signs₀ states₀ at₀ pieces₀ next₀ signs states at pieces next = Piecing image s setting text signs₀ signs states at pieces next
+Inv-loop image s setting text signs₀ states₀ at₀ pieces₀ next₀ signs states at pieces next =
+    Piecing image s setting text signs₀ signs states at pieces next
 
 abbrev μ-loop : tie.MeasureT-loop
 μ-loop image s setting text signs₀ states₀ at₀ pieces₀ next₀ signs states at pieces next = length text - at
@@ -58,32 +58,35 @@ front-piece-requires c κs =
       ),
     )
 
--- the piece that is made is the one at the front of the rest, and it fits there
+-- what the function was entered with, and the loop's turn
+abbrev entered : tie.After-front-piece Inv-loop μ-loop → tie.Start Inv-loop μ-loop
+entered c = c .before .before .before .before .before .before .before .before .before
+
+abbrev turn : tie.After-front-piece Inv-loop μ-loop → tie.At-loop Inv-loop μ-loop
+turn c = c .before .before .before .before
+
+-- the piece that is made is the one at the front of the rest
 made : (c : tie.After-front-piece Inv-loop μ-loop)
     → MadeAs
-    (frontPiece (tableIn (c .before .before .before .before .before .before .before .before .before .args .image .now) (c .before .before .before .before .before .before .before .before .before .args .s))
-    (c .before .before .before .before .before .before .before .before .before .args .setting)
-    (statesIn (c .before .before .before .before .before .before .before .before .before .args .s) (c .before .before .before .before .loop .states))
-    (drop (c .before .before .before .before .loop .at) (c .before .before .before .before .before .before .before .before .before .args .text .now)))
-    (c .before .before .before .before .loop .signs) (c .before .before .before .before .loop .next) (c .front-piece .last .1 .1 .1 .1 .1 .0) (c .front-piece .result)
-made c =
-    let a = c .before .before .before .before .before .before .before .before .before .args in
-    rw (← (rest-lent (a .text .now) (c .before .before .before .before .loop .at))) (c .front-piece .ensures)
+    (frontPiece (tableIn (entered c .args .image .now) (entered c .args .s)) (entered c .args .setting)
+    (statesIn (entered c .args .s) (turn c .loop .states)) (drop (turn c .loop .at) (entered c .args .text .now)))
+    (turn c .loop .signs) (turn c .loop .next) (c .front-piece .last .1 .1 .1 .1 .1 .0) (c .front-piece .result)
+made c = rw (← (rest-lent (entered c .args .text .now) (turn c .loop .at))) (c .front-piece .ensures)
 
 -- it takes a character at least, and no more than there are
 record Takes (text : List ℕ) (at shift : ℕ) : Type 0 where
   least : 1 ≤ shift
   most : at + shift ≤ length text
 
-takes : (c : tie.After-front-piece Inv-loop μ-loop)
-    → Takes (c .before .before .before .before .before .before .before .before .before .args .text .now) (c .before .before .before .before .loop .at) (c .front-piece .result .shift)
+takes : (c : tie.After-front-piece Inv-loop μ-loop) → Takes (entered c .args .text .now) (turn c .loop .at) (c .front-piece .result .shift)
 takes c =
-    let start = c .before .before .before .before .before .before .before .before .before in
+    let start = entered c in
     let a = start .args in
-    let l = c .before .before .before .before .loop in
+    let l = turn c .loop in
     let here : l .at < length (a .text .now) = search needs in
     let rest = length-drop (l .at) (a .text .now) in
-    let f = front-fits (a .image .now) (a .s) (a .setting) (statesIn (a .s) (l .states)) (drop (l .at) (a .text .now)) (start .pre .0) (omega arith) in
+    let states = statesIn (a .s) (l .states) in
+    let f = front-fits (a .image .now) (a .s) (a .setting) states (drop (l .at) (a .text .now)) (start .pre .0) (omega arith) in
     let shift = made c .shift-is in
     record { least = omega (arith, f .least); most = omega (arith, f .most) }
 

@@ -1,7 +1,6 @@
 -- `translation::piecing::front_piece` meets its contract: what the search finds is the definition's choice, and the piece is made by it.
 use borrow.Author.Needs.{needs}
-use mathlib.Core.Option.{none, some}
-use mathlib.Core.Path.{_≡_, sym, _∙_, ap}
+use mathlib.Core.Path.{sym, _∙_, ap}
 use Rattle.translation.specs.Found.{found}
 use Rattle.translation.specs.States.{statesIn}
 use Rattle.translation.proofs.Fronts.{chosen-there, made-by-entry, made-by-letter}
@@ -37,7 +36,8 @@ returns : tie.Need-returns
 returns c =
     let start = c .before .before .before .before .before .before .before .before .before .before .before in
     let a = start .args in
-    let e = sym (c .before .before .before .before .before .before .before .search .ensures) ∙ ap found (c .before .before .before .before .before .k .given .1) in
+    let known = c .before .before .before .before .before in
+    let e = sym (known .before .before .search .ensures) ∙ ap found (known .k .given .1) in
     made-by-entry (a .image .now) (a .s) (a .setting) (statesIn (a .s) (a .states)) (a .rest .now) _ e (c .before .before .by-entry .ensures)
 
 same-length-2 : tie.Need-same-length-2
@@ -47,8 +47,10 @@ returns-2 : tie.Need-returns-2
 returns-2 c =
     let start = c .before .before .before .before .before .before .before .before .before .before .before in
     let a = start .args in
-    let e = sym (c .before .before .before .before .before .before .before .search .ensures) ∙ ap found (c .before .before .before .before .before .enum-told .given .1) in
-    made-by-letter (a .image .now) (a .s) (a .setting) (statesIn (a .s) (a .states)) (a .rest .now) (start .pre .1 .0) e (c .before .before .by-letter .ensures)
+    let told = c .before .before .before .before .before in
+    let e = sym (told .before .before .search .ensures) ∙ ap found (told .enum-told .given .1) in
+    made-by-letter (a .image .now) (a .s) (a .setting) (statesIn (a .s) (a .states)) (a .rest .now) (start .pre .1 .0) e
+    (c .before .before .by-letter .ensures)
 
 pub front-piece-spec : {M : Type 1} → statement M
 front-piece-spec =

@@ -1,7 +1,7 @@
 -- `translation::translating::translate_by` meets its contract: a text that is too long, the first unknown character, and otherwise the pieces of the
 -- collapsed text, which stands at the front of the local buffer.
 use borrow.Author.Needs.{needs}
-use mathlib.Core.Path.{_≡_, sym, _∙_, ap}
+use mathlib.Core.Path.{sym, _∙_, ap}
 use native.Mathlib.Omega.{arith}
 use Rattle.translation.specs.Found.{found}
 use Rattle.translation.proofs.Collapse.{collapsed-at-most}
@@ -59,8 +59,9 @@ same-length c = search needs
 returns-3 : tie.Need-returns-3
 returns-3 c =
     let a = c .before .before .before .before .before .before .before .before .before .before .before .before .before .before .before .args in
-    let known = sym (c .before .before .before .before .before .before .before .before .before .before .first-unknown .ensures) ∙ ap found (c .before .before .before .before .before .before .before .before .enum-told .given .1) in
-    all-done _ _ _ _ (c .before .before .before .before .before .before .before .before .before .before .before .if1 .left) known
+    let told = c .before .before .before .before .before .before .before .before in
+    let known = sym (told .before .before .first-unknown .ensures) ∙ ap found (told .enum-told .given .1) in
+    all-done _ _ _ _ (told .before .before .before .if1 .left) known
     (rw (front-is (c .before .before .before .before .before .before .collapse .ensures)) at (c .before .before .consume .ensures))
 
 pub translate-by-spec : {M : Type 1} → statement M

@@ -1,7 +1,7 @@
 -- `translation::translating::translate_followed` meets its contract: the verdict's fault is the answer, and an accepted image gives what the functions
 -- inside take for granted.
 use borrow.Author.Needs.{needs}
-use mathlib.Core.Path.{_≡_, sym, _∙_, ap}
+use mathlib.Core.Path.{sym, _∙_}
 use Rattle.table.specs.Table.{tableOf}
 use Rattle.translation.proofs.Accepted.{accepted-opened}
 use Rattle.translation.proofs.Outcomes.{table-refused, table-accepted}
@@ -37,7 +37,8 @@ same-length c = search needs
 returns-2 : tie.Need-returns-2
 unfolding tableOf
 returns-2 c =
-    let verdict = sym (c .before .before .before .before .before .before .before .check .ensures .is) ∙ c .before .before .before .before .before .enum-told .given .1 in
+    let told = c .before .before .before .before .before in
+    let verdict = sym (told .before .before .check .ensures .is) ∙ told .enum-told .given .1 in
     table-accepted _ _ _ _ verdict (rw (c .before .before .before .before .locate .ensures .is) at (c .before .before .translate-by .ensures))
 
 pub translate-followed-spec : {M : Type 1} → statement M

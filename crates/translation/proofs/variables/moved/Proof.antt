@@ -1,11 +1,11 @@
 -- `translation::variables::moved` meets its contract. The loop's invariant, `Moving`: the states before `v` have moved, the others are as they were.
 use borrow.Author.Needs.{needs}
-use Prim.Native.Nat.{ℕ, _≤_, _<_, _-_}
+use Prim.Native.Nat.{ℕ, _-_}
 use mathlib.Core.Bool.{Bool}
 use mathlib.Core.List.{List}
-use mathlib.Core.Path.{_≡_, _∙_, ap}
+use mathlib.Core.Path.{_≡_}
 use native.Mathlib.Omega.{arith}
-use lib.ListN.{length, set}
+use lib.ListN.{length}
 use Rattle.table.specs.Sections.{recordPart}
 use Rattle.table.specs.declared.Section.{Section}
 use Rattle.translation.specs.Decide.{byteOfClass, turned}
