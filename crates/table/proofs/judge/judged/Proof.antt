@@ -47,7 +47,9 @@ records-passed c =
     records-right (a .image .now) (a .s) (sym (c .before .before .first-wrong .ensures) ∙ c .enum-told .given .1)
 
 -- the blank has a letter, so the grouping is next
-blank-passed : (c : tie.Else1) → (let a = c .before .before .before .before .before .before .before .args in recordsVerdict (a .image .now) (a .s) ≡ groupingVerdict (a .image .now) (a .s))
+blank-passed : (c : tie.Else1)
+    → (let a = c .before .before .before .before .before .before .before .args in
+    recordsVerdict (a .image .now) (a .s) ≡ groupingVerdict (a .image .now) (a .s))
 blank-passed c =
     let a = c .before .before .before .before .before .before .before .args in
     let number = c .before .before .before .before .before .letters-by-symbol .ensures .numbers blank (omega arith) in
