@@ -14,5 +14,8 @@ pub mod Gather
 pub mod Steps
 pub mod Going
 pub mod Refusals
+pub mod Promises
+pub mod Relied
+pub mod WholeCall
 pub mod Demands
 pub mod Twelve

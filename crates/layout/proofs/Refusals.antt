@@ -76,9 +76,17 @@ module _ (W P : ℕ) where
       go (yes b) = inr (outside (λ c. fails-law sizes-tell .0 e (b, c)))
       go (no d) = inl (outside d)
 
-  sizes-not-wrong : sizesRight W P ≡ true → SizesWrong W P → ⊥
+  pub sizes-not-wrong : sizesRight W P ≡ true → SizesWrong W P → ⊥
   sizes-not-wrong e (inl o) = not-outside (sizes-tell .0 e .0) o
   sizes-not-wrong e (inr o) = not-outside (sizes-tell .0 e .1) o
+
+  -- sizes that aren't wrong are right
+  pub sizes-right : (SizesWrong W P → ⊥) → Between leastWidth mostWidth W × Between leastPage mostPage P
+  sizes-right h = go (sizesRight W P) refl
+    where
+      go : (b : Bool) → sizesRight W P ≡ b → Between leastWidth mostWidth W × Between leastPage mostPage P
+      go true e = sizes-tell .0 e
+      go false e = absurd (h (sizes-wrong e))
 
 -- ---- The call, check by check
 

@@ -9,10 +9,11 @@ use native.Mathlib.Omega.{arith}
 use lib.ListN.{length, replicate}
 use Rattle.table.specs.Example.{image, table, ascii}
 use Rattle.translation.specs.Pieces.{piecesOf, signsOf}
+use Rattle.translation.specs.Translate.{blankFollows}
 use Rattle.layout.specs.Words.{Item, word, itemsOf}
 use Rattle.layout.specs.Permitted.{Permitted}
 use Rattle.layout.specs.Pages.{pagesOf, bytesOfPages}
-use Rattle.layout.specs.Emboss.{Outcome, embossing, blankFollows, number, place, written, pieces, lines, pages}
+use Rattle.layout.specs.Emboss.{Outcome, embossing, number, place, written, pieces, lines, pages}
 use Rattle.layout.specs.Computing.{computing}
 use Rattle.layout.proofs.Permitted.{choices-permitted}
 

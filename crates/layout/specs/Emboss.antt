@@ -6,7 +6,7 @@ use mathlib.Core.List.{List, [], _∷_, _++_}
 use mathlib.Core.Option.{Option, none, some}
 use lib.ListN.{length, drop}
 use lib.Dec.{leb}
-use Rattle.table.specs.Numbers.{blank, numberDone, noPlace}
+use Rattle.table.specs.Numbers.{numberDone, noPlace}
 use Rattle.table.specs.Search.{within}
 use Rattle.table.specs.Table.{Table, tableOf}
 use Rattle.table.specs.Verdict.{faultNumber, faultPlace, verdictOf}
@@ -16,6 +16,7 @@ use Rattle.table.specs.declared.Verdict.the-variants.{Accepted, Refused}
 use Rattle.translation.specs.Numbers.{mostText, numberLongText, numberUnknown}
 use Rattle.translation.specs.Letters.{firstUnknown}
 use Rattle.translation.specs.Pieces.{piecesOf, signsOf}
+use Rattle.translation.specs.Translate.{blankFollows}
 use Rattle.translation.specs.declared.Setting.{Setting}
 use Rattle.layout.specs.Numbers.{leastWidth, mostWidth, leastPage, mostPage, lineMark, pageMark, numberSize, numberRoom}
 use Rattle.layout.specs.Words.{itemsOf}
@@ -125,8 +126,5 @@ embossFollowed setting image text W P out =
     elim (verdictOf image) [ Accepted ↦ judgeSizes (tableOf image) setting text W P out | Refused fault ↦ refused out (TableRefused fault) ]
 
 -- the call of the base: past the end of text stands the blank
-abbrev pub blankFollows : Setting
-blankFollows = record { following = blank }
-
 unfoldable pub embossing : List ℕ → List ℕ → ℕ → ℕ → List ℕ → Outcome
 embossing image text W P out = embossFollowed blankFollows image text W P out

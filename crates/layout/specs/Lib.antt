@@ -13,4 +13,6 @@ pub mod Gather
 pub mod Emboss
 pub mod Writing
 pub mod Refusals
+pub mod Promises
+pub mod Relied
 pub mod Computing

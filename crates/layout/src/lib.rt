@@ -1,11 +1,14 @@
 // The whole call: translated signs are gathered into words, laid out in lines and pages, and written as cells.
 // What each type means is said in specs/; this file has the types that the definitions and the calls share.
 
+mod answering;
+mod embossing;
 mod filling;
 mod measuring;
 mod moving;
 mod writing;
 
+pub use embossing::emboss;
 use table::Fault;
 
 // A place on the page: the cells of the line that is being filled, the lines that the page has, whether the next word opens a paragraph,

@@ -1,0 +1,183 @@
+-- The three demands of the whole call. Each theorem has one hypothesis, the promise of `emboss`: whatever answer and bytes afterwards it allows for an
+-- image, a text, W, P and the bytes lent, they have the property.
+use Prim.Native.Nat.{ℕ, suc, _<_, _≤_}
+use mathlib.Core.Bool.{Bool, true, false}
+use mathlib.Core.List.{List, _++_, flatten}
+use mathlib.Core.Logic.{_↔_}
+use mathlib.Core.Path.{_≡_, refl, sym, _∙_, ap, subst, subst₂}
+use native.Mathlib.Decide.{decLt}
+use native.Mathlib.Omega.{arith}
+use lib.ListN.{length, take, drop}
+use lib.Seq.{drop-append-seam, take-append-seam}
+use Rattle.table.specs.Numbers.{numberDone}
+use Rattle.table.specs.Refusals.{Between}
+use Rattle.table.specs.Table.{tableOf}
+use Rattle.table.specs.Verdict.{verdictOf}
+use Rattle.table.specs.declared.Verdict.the-variants.{Accepted}
+use Rattle.table.proofs.Refusals.{no-refusal-1, no-refusal-2, no-refusal-3, no-refusal-4, accepted}
+use Rattle.translation.specs.Collapse.{collapsed}
+use Rattle.translation.specs.Pieces.{piecesOf}
+use Rattle.translation.proofs.Chosen.{first-in-order}
+use Rattle.translation.proofs.States.{states-start, states-move}
+use Rattle.translation.specs.Translate.{blankFollows}
+use Rattle.layout.specs.Numbers.{leastWidth, mostWidth, leastPage, mostPage}
+use Rattle.layout.specs.Lists.{All, only}
+use Rattle.layout.specs.Pages.{pagesOf, bytesOfPages}
+use Rattle.layout.specs.Spots.{layoutOf}
+use Rattle.layout.specs.Fitting.{wordsIn}
+use Rattle.layout.specs.Right.{PageRight}
+use Rattle.layout.specs.Signs.{isDotted}
+use Rattle.layout.specs.Drawn.{volumeLines, Drawn}
+use Rattle.layout.specs.Emboss.{number, place, written, pieces, lines, pages, Outcome, refused, done, bytesOf, embossFollowed, embossing}
+use Rattle.layout.specs.Refusals.{Line, line-1, line-2, line-3, line-4, line-5, line-8, FirstLine}
+use Rattle.layout.specs.Promises.{Embossed}
+use Rattle.layout.specs.Relied.{wrote, textPieces, textItems, Untouched, Bounded, Translates, LaysOut, Earliest}
+use Rattle.layout.specs.declared.Answer.{Answer}
+use Rattle.layout.specs.declared.Answer.the-variants.{Done, Table as TableRefused, Size, LongText, Unknown, Room}
+use Rattle.layout.proofs.Refusals as Refusals-laws
+use Rattle.layout.proofs.Demands as Demands-laws
+
+-- every answer but the done one counts nothing
+untouched : (a : Answer) {before after : List ℕ} → 0 < number a → after ≡ before → Untouched before a after
+untouched (Done w n l g) h e = absurd (omega arith)
+untouched (TableRefused fault) h e = record { bytes = e; written = refl; pieces = refl; lines = refl; pages = refl }
+untouched Size h e = record { bytes = e; written = refl; pieces = refl; lines = refl; pages = refl }
+untouched LongText h e = record { bytes = e; written = refl; pieces = refl; lines = refl; pages = refl }
+untouched (Unknown at) h e = record { bytes = e; written = refl; pieces = refl; lines = refl; pages = refl }
+untouched (Room needed) h e = record { bytes = e; written = refl; pieces = refl; lines = refl; pages = refl }
+
+module _ (image text : List ℕ) (W P : ℕ) (before : List ℕ) (answer : Answer) (after : List ℕ) (call : Embossed image text W P before answer after) where
+  abbrev outcome : Outcome
+  outcome = embossFollowed blankFollows image text W P before
+
+  abbrev bytes : List ℕ
+  bytes = bytesOf (tableOf image) blankFollows text W P
+
+  answered : answer ≡ outcome .answer
+  unfolding embossing
+  answered = call .answers
+
+  left : after ≡ outcome .output
+  unfolding embossing
+  left = call .leaves
+
+  -- ---- Demand 1
+
+  -- a refusal is the answer, with its place, exactly when its line of the paper's table holds and no earlier one does
+  pub call-refused-exactly-when : (n p : ℕ) → 0 < n
+      → ((number answer ≡ n) × (place answer ≡ p)) ↔ FirstLine blankFollows image text W P before n p
+  call-refused-exactly-when n p h =
+      subst (λ (a : Answer). ((number a ≡ n) × (place a ≡ p)) ↔ FirstLine blankFollows image text W P before n p) (sym answered)
+      (Refusals-laws.refused-exactly-when blankFollows image text W P before n p h)
+
+  -- the call is done exactly when no line holds
+  pub call-done-exactly-when : (number answer ≡ numberDone) ↔ ((n p : ℕ) → Line blankFollows image text W P before n p → ⊥)
+  call-done-exactly-when =
+      subst (λ (a : Answer). (number a ≡ numberDone) ↔ ((n p : ℕ) → Line blankFollows image text W P before n p → ⊥)) (sym answered)
+      (Refusals-laws.done-exactly-when blankFollows image text W P before)
+
+  -- a refused call changed no byte and counts nothing
+  pub call-refused-untouched : 0 < number answer → Untouched before answer after
+  call-refused-untouched h =
+      untouched answer h
+      (left ∙ Refusals-laws.refused-keeps-output blankFollows image text W P before (subst (λ (a : Answer). 0 < number a) answered h))
+
+  -- ---- A call that is done
+  module _ (is-done : number answer ≡ numberDone) where
+    whole : outcome ≡ done before bytes (length (textPieces image text))
+    whole = Refusals-laws.done-writes blankFollows image text W P before (sym (ap number answered) ∙ is-done)
+
+    no-line : (n p : ℕ) → Line blankFollows image text W P before n p → ⊥
+    no-line = call-done-exactly-when .0 is-done
+
+    -- the answer and the bytes afterwards, spelled out
+    is-answer : answer ≡ done before bytes (length (textPieces image text)) .answer
+    is-answer = answered ∙ ap (λ (o : Outcome). o .answer) whole
+
+    is-after : after ≡ bytes ++ drop (length bytes) before
+    unfolding done
+    is-after = left ∙ ap (λ (o : Outcome). o .output) whole
+
+    is-written : written answer ≡ length bytes
+    unfolding done
+    is-written = ap written is-answer
+
+    is-pieces : pieces answer ≡ length (textPieces image text)
+    unfolding done
+    is-pieces = ap pieces is-answer
+
+    wrote-bytes : wrote answer after ≡ bytes
+    wrote-bytes = ap (λ (n : ℕ). take n after) is-written ∙ ap (take (length bytes)) is-after ∙ take-append-seam bytes (drop (length bytes) before)
+
+    table-accepted : verdictOf image ≡ Accepted
+    table-accepted =
+        accepted image .1 (
+          no-refusal-1 image .0 (λ x. no-line _ _ (line-1 x)),
+          no-refusal-2 image .0 (λ at x. no-line _ _ (line-2 x)),
+          no-refusal-3 image .0 (λ x. no-line _ _ (line-3 x)),
+          no-refusal-4 image .0 (λ at x. no-line _ _ (line-4 x)),
+        )
+
+    sizes : Between leastWidth mostWidth W × Between leastPage mostPage P
+    sizes = Refusals-laws.sizes-right W P (λ x. no-line _ _ (line-5 x))
+
+    room-for : length bytes ≤ length before
+    room-for = go (decLt (length before) (length bytes))
+      where
+        go : Dec (length before < length bytes) → length bytes ≤ length before
+        go (yes l) = absurd (no-line _ _ (line-8 l))
+        go (no d) = omega arith
+
+    -- the table, the sizes and the room are right, and beyond the written bytes nothing changed
+    pub call-bounded : Bounded image W P before answer after
+    call-bounded =
+        record {
+          accepted = table-accepted;
+          width = sizes .0;
+          page = sizes .1;
+          room = subst (λ (n : ℕ). n ≤ length before) (sym is-written) room-for;
+          beyond =
+              subst (λ (n : ℕ). drop n after ≡ drop n before) (sym is-written)
+              (ap (drop (length bytes)) is-after ∙ drop-append-seam bytes (drop (length bytes) before));
+        }
+
+    -- ---- Demand 2
+
+    pub call-translates : Translates image text answer
+    unfolding piecesOf
+    call-translates =
+        record {
+          counted = is-pieces;
+          consumed = Demands-laws.text-consumed blankFollows image text W P (sizes .0) (sizes .1) table-accepted;
+          chosen = λ i l. first-in-order (tableOf image) blankFollows (collapsed text) i (subst (λ (n : ℕ). i < n) is-pieces l);
+          start = λ l. states-start (tableOf image) blankFollows (collapsed text) (subst (λ (n : ℕ). 0 < n) is-pieces l);
+          move = λ i l. states-move (tableOf image) blankFollows (collapsed text) i (subst (λ (n : ℕ). suc i < n) is-pieces l);
+        }
+
+    pub call-lays-out : LaysOut image text W P answer after
+    unfolding done
+    call-lays-out =
+        record {
+          exact = wrote-bytes;
+          right = subst (λ (b : List ℕ). All (PageRight W P) (pagesOf b)) (sym wrote-bytes) (Demands-laws.text-pages-right blankFollows image text W P (sizes .0) (sizes .1) table-accepted);
+          bytes = subst (λ (b : List ℕ). bytesOfPages (pagesOf b) ≡ b) (sym wrote-bytes) (Demands-laws.text-pages-bytes blankFollows image text W P (sizes .0) (sizes .1) table-accepted);
+          lines = ap (λ (b : List ℕ). length (flatten (pagesOf b))) wrote-bytes ∙ (Demands-laws.text-lines-counted blankFollows image text W P (sizes .0) (sizes .1) table-accepted) ∙ sym (ap lines is-answer);
+          pages = ap (λ (b : List ℕ). length (pagesOf b)) wrote-bytes ∙ (Demands-laws.text-pages-counted blankFollows image text W P (sizes .0) (sizes .1) table-accepted) ∙ sym (ap pages is-answer);
+          signs = ap (λ (b : List ℕ). only isDotted (flatten (flatten (pagesOf b)))) wrote-bytes ∙ (Demands-laws.text-has-the-signs blankFollows image text W P (sizes .0) (sizes .1) table-accepted);
+        }
+
+    -- ---- Demand 3
+
+    pub call-earliest : Earliest image text W P answer after
+    unfolding done
+    call-earliest =
+        record {
+          ours = layoutOf W P (textItems image text W);
+          drawn =
+              subst (λ (b : List ℕ). Drawn (volumeLines b) (wordsIn (textItems image text W)) (layoutOf W P (textItems image text W) .spots)) (sym wrote-bytes)
+              (Demands-laws.text-spots blankFollows image text W P (sizes .0) (sizes .1) table-accepted);
+          lines = (Demands-laws.text-layout-lines blankFollows image text W P (sizes .0) (sizes .1) table-accepted) ∙ sym (ap lines is-answer);
+          pages = (Demands-laws.text-layout-pages blankFollows image text W P (sizes .0) (sizes .1) table-accepted) ∙ sym (ap pages is-answer);
+          permitted = (Demands-laws.text-permitted blankFollows image text W P (sizes .0) (sizes .1) table-accepted);
+          no-later = (Demands-laws.text-no-later blankFollows image text W P (sizes .0) (sizes .1) table-accepted);
+        }

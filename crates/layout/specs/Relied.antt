@@ -1,0 +1,84 @@
+-- What a caller of the whole call may rely on, in the words of the three demands: of an image, a text, W, P, the bytes lent, the answer and the bytes
+-- afterwards. proofs/Relied.antt shows each of whatever answer and bytes the promise of `emboss` allows.
+use Prim.Native.Nat.{ℕ, suc, _<_, _≤_}
+use mathlib.Core.Bool.{false}
+use mathlib.Core.List.{List, map, flatten}
+use mathlib.Core.Path.{_≡_}
+use lib.ListN.{length, take, drop}
+use Rattle.table.specs.Refusals.{Between}
+use Rattle.table.specs.Table.{tableOf}
+use Rattle.table.specs.Verdict.{verdictOf}
+use Rattle.table.specs.declared.Verdict.the-variants.{Accepted}
+use Rattle.translation.specs.Collapse.{collapsed}
+use Rattle.translation.specs.Decide.{state, moved}
+use Rattle.translation.specs.Pieces.{Piece, characters, piecesOf, signsOf}
+use Rattle.translation.specs.Chosen.{Chosen, piece}
+use Rattle.translation.specs.Translate.{blankFollows}
+use Rattle.layout.specs.Numbers.{leastWidth, mostWidth, leastPage, mostPage}
+use Rattle.layout.specs.Lists.{All, only}
+use Rattle.layout.specs.Words.{Item, itemsOf}
+use Rattle.layout.specs.Pages.{pagesOf, bytesOfPages}
+use Rattle.layout.specs.Permitted.{Layout, Permitted}
+use Rattle.layout.specs.Spots.{NoLater}
+use Rattle.layout.specs.Fitting.{wordsIn}
+use Rattle.layout.specs.Right.{PageRight}
+use Rattle.layout.specs.Signs.{isDotted}
+use Rattle.layout.specs.Drawn.{volumeLines, Drawn}
+use Rattle.layout.specs.Emboss.{written, pieces, lines, pages, bytesOf}
+use Rattle.layout.specs.declared.Answer.{Answer}
+
+-- the bytes that the call wrote, read back out of the bytes afterwards
+abbrev pub wrote : Answer → List ℕ → List ℕ
+wrote answer after = take (written answer) after
+
+-- the pieces of the text by the table of the image, and its words and format signs
+abbrev pub textPieces : List ℕ → List ℕ → List Piece
+textPieces image text = piecesOf (tableOf image) blankFollows text
+
+abbrev pub textItems : List ℕ → List ℕ → ℕ → List Item
+textItems image text W = itemsOf W (signsOf (textPieces image text))
+
+-- demand 1: the call changed no byte, and has nothing to count
+pub record Untouched (before : List ℕ) (answer : Answer) (after : List ℕ) : Type 0 where
+  pub bytes : after ≡ before
+  pub written : written answer ≡ 0
+  pub pieces : pieces answer ≡ 0
+  pub lines : lines answer ≡ 0
+  pub pages : pages answer ≡ 0
+
+-- demand 1: the table, the sizes and the room are right, and beyond the written bytes nothing changed
+pub record Bounded (image : List ℕ) (W P : ℕ) (before : List ℕ) (answer : Answer) (after : List ℕ) : Type 0 where
+  pub accepted : verdictOf image ≡ Accepted
+  pub width : Between leastWidth mostWidth W
+  pub page : Between leastPage mostPage P
+  pub room : written answer ≤ length before
+  pub beyond : drop (written answer) after ≡ drop (written answer) before
+
+-- demand 2: the collapsed text is consumed from front to back, at each place by the first admissible entry or by the character's own record, and the
+-- states start at no and are moved by each piece's class
+pub record Translates (image text : List ℕ) (answer : Answer) : Type 0 where
+  pub counted : pieces answer ≡ length (textPieces image text)
+  pub consumed : flatten (map characters (textPieces image text)) ≡ collapsed text
+  pub chosen : (i : ℕ) → i < pieces answer → Chosen (tableOf image) blankFollows (piece (textPieces image text) i)
+  pub start : 0 < pieces answer → (v : ℕ) → state (piece (textPieces image text) 0 .states) v ≡ false
+  pub move : (i : ℕ) → suc i < pieces answer
+      → piece (textPieces image text) (suc i) .states
+      ≡ moved (tableOf image) (piece (textPieces image text) i .class) (piece (textPieces image text) i .states)
+
+-- demand 2: the written bytes are those of the rules, and read back as pages they keep every rule of lines and pages
+pub record LaysOut (image text : List ℕ) (W P : ℕ) (answer : Answer) (after : List ℕ) : Type 0 where
+  pub exact : wrote answer after ≡ bytesOf (tableOf image) blankFollows text W P
+  pub right : All (PageRight W P) (pagesOf (wrote answer after))
+  pub bytes : bytesOfPages (pagesOf (wrote answer after)) ≡ wrote answer after
+  pub lines : length (flatten (pagesOf (wrote answer after))) ≡ lines answer
+  pub pages : length (pagesOf (wrote answer after)) ≡ pages answer
+  pub signs : only isDotted (flatten (flatten (pagesOf (wrote answer after)))) ≡ only isDotted (signsOf (textPieces image text))
+
+-- demand 3: the layout that the written bytes draw is permitted; no permitted layout has a word earlier, fewer lines or fewer pages
+pub record Earliest (image text : List ℕ) (W P : ℕ) (answer : Answer) (after : List ℕ) : Type 0 where
+  pub ours : Layout
+  pub drawn : Drawn (volumeLines (wrote answer after)) (wordsIn (textItems image text W)) (ours .spots)
+  pub lines : ours .lines ≡ lines answer
+  pub pages : ours .pages ≡ pages answer
+  pub permitted : Permitted W P (textItems image text W) ours
+  pub no-later : (other : Layout) → Permitted W P (textItems image text W) other → NoLater ours other
