@@ -45,7 +45,10 @@ fn tell(image: &[u8], text: &[u8], width: usize, page: usize, out: &mut [u8]) {
     if as_lent(out) {
         io::write_all(STDOUT_FILENO, &[b'k', b'e', b'p', b't', b'\n']);
     } else {
-        io::write_all(STDOUT_FILENO, &[b'w', b'r', b'i', b't', b't', b'e', b'n', b'\n']);
+        io::write_all(
+            STDOUT_FILENO,
+            &[b'w', b'r', b'i', b't', b't', b'e', b'n', b'\n'],
+        );
     }
 }
 
