@@ -7,7 +7,7 @@ use mathlib.Core.Logic.{_↔_}
 use mathlib.Core.Path.{_≡_, refl, sym, _∙_, ap, subst, subst₂}
 use native.Mathlib.Decide.{decLt}
 use native.Mathlib.Omega.{arith}
-use lib.ListN.{length, take, drop}
+use lib.ListN.{length, take, drop, length-append}
 use lib.Seq.{drop-append-seam, take-append-seam}
 use Rattle.table.specs.Numbers.{numberDone}
 use Rattle.table.specs.Refusals.{Between}
@@ -128,6 +128,12 @@ module _ (image text : List ℕ) (W P : ℕ) (before : List ℕ) (answer : Answe
         go (yes l) = absurd (no-line _ _ (line-8 l))
         go (no d) = omega arith
 
+    written-within : written answer ≤ length after
+    written-within =
+        let n = length-append bytes (drop (length bytes) before) in
+        let w = is-written in
+        rw is-after (omega arith)
+
     -- the table, the sizes and the room are right, and beyond the written bytes nothing changed
     pub call-bounded : Bounded image W P before answer after
     call-bounded =
@@ -181,3 +187,12 @@ module _ (image text : List ℕ) (W P : ℕ) (before : List ℕ) (answer : Answe
           permitted = (Demands-laws.text-permitted blankFollows image text W P (sizes .0) (sizes .1) table-accepted);
           no-later = (Demands-laws.text-no-later blankFollows image text W P (sizes .0) (sizes .1) table-accepted);
         }
+
+-- the written bytes lie within the bytes afterwards, refused or done
+pub call-written : {image text : List ℕ} {W P : ℕ} {before : List ℕ} {answer : Answer} {after : List ℕ} → Embossed image text W P before answer after
+    → written answer ≤ length after
+call-written {image} {text} {W} {P} {before} {answer} {after} call = go (decLt 0 (number answer))
+  where
+    go : Dec (0 < number answer) → written answer ≤ length after
+    go (yes h) = let w = call-refused-untouched image text W P before answer after call h .written in omega arith
+    go (no d) = written-within image text W P before answer after call (omega arith)

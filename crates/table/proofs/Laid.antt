@@ -10,7 +10,20 @@ use native.Mathlib.Omega.{arith}
 use lib.Dec.{leb}
 use lib.ListN.{length}
 use Rattle.table.specs.Numbers.{trailerSize}
-use Rattle.table.specs.Sections.{trailerAt, distance, sectionAt, lastSection, sectionsIn, trailerRight, distancesRight, wholeRecords, lengthsRight, frameRight, sectionsOf, offset}
+use Rattle.table.specs.Sections.{
+  trailerAt,
+  distance,
+  sectionAt,
+  lastSection,
+  sectionsIn,
+  trailerRight,
+  distancesRight,
+  wholeRecords,
+  lengthsRight,
+  frameRight,
+  sectionsOf,
+  offset,
+}
 use Rattle.table.specs.Refusals.{Between}
 use Rattle.table.specs.Laid.{Laid, SectionsLaid}
 use Rattle.table.specs.declared.Section.{Section}

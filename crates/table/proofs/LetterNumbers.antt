@@ -28,7 +28,7 @@ module _ (image : List ℕ) (alphabet : Section) (c : ℕ) where
   has k = eqb (recordByte image alphabet k symbolByte) c
 
   -- one record more: a number stays, and without one the record counts where it has the symbol
-  pub number-kept : (n : ℕ) → (letterNumber image alphabet c n ≡ 0 → ⊥) → letterNumber image alphabet c (n + 1) ≡ letterNumber image alphabet c n
+  number-kept : (n : ℕ) → (letterNumber image alphabet c n ≡ 0 → ⊥) → letterNumber image alphabet c (n + 1) ≡ letterNumber image alphabet c n
   unfolding letterNumber
   number-kept n some-number = go (first has n) refl
     where
@@ -36,7 +36,7 @@ module _ (image : List ℕ) (alphabet : Section) (c : ℕ) where
       go none e = absurd (some-number (ap numberOf e))
       go (some k) e = rw (first-kept has n k e, e)
 
-  pub number-new : (n : ℕ) → letterNumber image alphabet c n ≡ 0 → recordByte image alphabet n symbolByte ≡ c
+  number-new : (n : ℕ) → letterNumber image alphabet c n ≡ 0 → recordByte image alphabet n symbolByte ≡ c
       → letterNumber image alphabet c (n + 1) ≡ n + 1
   unfolding letterNumber
   number-new n no-number same = go (first has n) refl
@@ -45,7 +45,7 @@ module _ (image : List ℕ) (alphabet : Section) (c : ℕ) where
       go none e = rw (first-last has n e (eq-eqb _ _ same))
       go (some k) e = let z : numberOf (some k) ≡ 0 = sym (ap numberOf e) ∙ no-number in absurd (omega arith)
 
-  pub number-other : (n : ℕ) → (recordByte image alphabet n symbolByte ≡ c → ⊥) → letterNumber image alphabet c (n + 1) ≡ letterNumber image alphabet c n
+  number-other : (n : ℕ) → (recordByte image alphabet n symbolByte ≡ c → ⊥) → letterNumber image alphabet c (n + 1) ≡ letterNumber image alphabet c n
   unfolding letterNumber
   number-other n other = go (first has n) refl
     where

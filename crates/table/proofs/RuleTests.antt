@@ -95,14 +95,17 @@ module _ (image : List ℕ) (s : Sections) (k : ℕ) where
   unfolding transitionRule
   transition-tests = right-joined (transitionRule image s k) ∙ joined-places true _ (s .classes)
 
+  abbrev conditionTest : ℕ → Bool
+  conditionTest v = rightCondition (recordByte image (s .decisions) k (s .classes + v))
+
   pub decision-tests : rightRecord (decisionRule image s k)
       ≡ (every (λ j. rightDecision (recordByte image (s .decisions) k j)) (s .classes)
-      && every (λ v. rightCondition (recordByte image (s .decisions) k (s .classes + v))) (s .variables))
+      && every conditionTest (s .variables))
   unfolding decisionRule
   decision-tests =
       right-joined (decisionRule image s k)
       ∙ joined-append true (listOf _ (s .classes)) _
-      ∙ ap (λ (b : Bool). joined b (listOf (λ v. rightCondition (recordByte image (s .decisions) k (s .classes + v))) (s .variables))) (joined-places true _ (s .classes))
+      ∙ ap (λ (b : Bool). joined b (listOf conditionTest (s .variables))) (joined-places true _ (s .classes))
       ∙ joined-places _ _ (s .variables)
 
   pub letter-tests : rightRecord (letterRule image s k)
@@ -132,4 +135,6 @@ module _ (image : List ℕ) (s : Sections) (k : ℕ) where
 
   pub entry-tests : rightRecord (entryRule image s k) ≡ afterString (within leastLength mostLength (byte lengthByte) && every stringTest mostLength)
   unfolding entryRule joined listFrom
-  entry-tests = right-joined (entryRule image s k) ∙ ap afterString (joined-places (within leastLength mostLength (byte lengthByte)) stringTest mostLength)
+  entry-tests =
+      right-joined (entryRule image s k)
+      ∙ ap afterString (joined-places (within leastLength mostLength (byte lengthByte)) stringTest mostLength)

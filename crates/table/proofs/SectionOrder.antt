@@ -9,7 +9,19 @@ use native.Mathlib.Omega.{arith}
 use lib.ListN.{drop}
 use lib.Seq.{drop-cons}
 use Rattle.table.specs.Search.{first}
-use Rattle.table.specs.Records.{SectionName, alphabet, contractions, contexts, transitions, decisions, sectionNamed, Wrong, wrongIn, firstWrongOf, imageOrder}
+use Rattle.table.specs.Records.{
+  SectionName,
+  alphabet,
+  contractions,
+  contexts,
+  transitions,
+  decisions,
+  sectionNamed,
+  Wrong,
+  wrongIn,
+  firstWrongOf,
+  imageOrder,
+}
 use Rattle.table.specs.Refusals.{sectionsBefore}
 use Rattle.table.specs.Found.{found}
 use Rattle.table.specs.Judging.{nameAt, wrongAt, foundWrong}

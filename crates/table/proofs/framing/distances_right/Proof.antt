@@ -25,8 +25,13 @@ sub-result c = search needs
 returns : tie.Need-returns
 unfolding distancesRight trailerAt
 returns c =
-    rw
-    (c .before .before .before .before .distance-of .ensures .0, c .before .before .before .distance-of2 .ensures .0, c .before .before .distance-of3 .ensures .0, c .before .distance-of4 .ensures .0, c .distance-of5 .ensures .0)
+    rw (
+      c .before .before .before .before .distance-of .ensures .0,
+      c .before .before .before .distance-of2 .ensures .0,
+      c .before .before .distance-of3 .ensures .0,
+      c .before .distance-of4 .ensures .0,
+      c .distance-of5 .ensures .0,
+    )
 
 pub distances-right-spec : {M : Type 1} → statement M
 distances-right-spec =

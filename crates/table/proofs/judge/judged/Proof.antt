@@ -1,10 +1,15 @@
 -- `table::judge::judged` meets its contract: each way out is a check that refuses, after those before it passed, or the last one passing.
 use borrow.Author.Needs.{needs}
-use mathlib.Core.Path.{_≡_, sym, _∙_}
+use mathlib.Core.Path.{_≡_, sym, _∙_, ap}
 use native.Mathlib.Omega.{arith}
 use Rattle.table.specs.Numbers.{blank}
 use Rattle.table.specs.Verdict.{groupingVerdict, blankVerdict, recordsVerdict}
 use Rattle.table.proofs.VerdictSteps.{wrong-refused, records-right, no-blank-refused, blank-there, break-refused, grouped-accepted}
+use Prim.Native.Nat.{ℕ}
+use Rattle.table.specs.Sections.{offset}
+use Rattle.table.specs.declared.Section.{Section}
+use Rattle.table.specs.declared.Fault.the-variants.{Record, Grouping}
+use Rattle.table.specs.declared.Verdict.the-variants.{Refused}
 use Rattle.table.proofs.judge.judged.Statement.{statement}
 use Rattle.table.proofs.judge.judged.Tie as tie
 
@@ -28,7 +33,8 @@ returns c =
     let a = c .before .before .before .before .before .before .before .before .before .args in
     let found = c .before .before .before .i .given in
     let told = sym (c .before .before .before .before .before .first-wrong .ensures) ∙ found .1 in
-    rw (c .offset-of .ensures .0, c .before .section-at .ensures) (sym (wrong-refused (a .image .now) (a .s) (found .0 .0) (found .0 .1 .0) told))
+    let place = c .offset-of .ensures .0 ∙ ap (λ (x : Section). offset x (found .0 .1 .0)) (c .before .section-at .ensures) in
+    sym (wrong-refused (a .image .now) (a .s) (found .0 .0) (found .0 .1 .0) told ∙ ap (λ (at : ℕ). Refused (Record at)) (sym place))
 
 enum-told : tie.Need-enum-told
 enum-told c = search needs
@@ -41,7 +47,9 @@ records-passed c =
     records-right (a .image .now) (a .s) (sym (c .before .before .first-wrong .ensures) ∙ c .enum-told .given .1)
 
 -- the blank has a letter, so the grouping is next
-blank-passed : (c : tie.Else1) → (let a = c .before .before .before .before .before .before .before .args in recordsVerdict (a .image .now) (a .s) ≡ groupingVerdict (a .image .now) (a .s))
+blank-passed : (c : tie.Else1)
+    → (let a = c .before .before .before .before .before .before .before .args in
+    recordsVerdict (a .image .now) (a .s) ≡ groupingVerdict (a .image .now) (a .s))
 blank-passed c =
     let a = c .before .before .before .before .before .before .before .args in
     let number = c .before .before .before .before .before .letters-by-symbol .ensures .numbers blank (omega arith) in
@@ -73,7 +81,8 @@ returns-3 c =
     let a = c .before .before .before .before .before .before .before .before .before .before .before .before .before .args in
     let found = c .before .before .r .given in
     let told = sym (c .before .before .before .before .first-break .ensures) ∙ found .1 in
-    rw (c .offset-of2 .ensures .0) (sym (blank-passed (c .before .before .before .before .before .before) ∙ break-refused (a .image .now) (a .s) (found .0 .0) told))
+    let refused = blank-passed (c .before .before .before .before .before .before) ∙ break-refused (a .image .now) (a .s) (found .0 .0) told in
+    sym (refused ∙ ap (λ (at : ℕ). Refused (Grouping at)) (sym (c .offset-of2 .ensures .0)))
 
 returns-4 : tie.Need-returns-4
 returns-4 c =

@@ -74,11 +74,12 @@ string-judged c =
     let s = a .s in
     let char : ℕ → ℕ = λ i. recordByte image (s .contractions) (a .k) (stringByte + i) in
     let len = c .before .before .before .before .before .before .before .record-byte in
+    let known = c .before .before .before .before .before .before .before .before .before .shared-slice-known in
     c .string-right .ensures
     ∙ every-same _ _ mostLength
     (λ i l.
     character-tests image s (char i) (a .letters .now) (start .pre) (len .result) i
-    (c .before .before .before .before .before .before .before .before .before .shared-slice-known .given (offset (s .contractions) (a .k) + (stringByte + i)) .fits))
+    (known .given (offset (s .contractions) (a .k) + (stringByte + i)) .fits))
     ∙ ap (λ (n : ℕ). every (λ i. rightStringByte (symbols image s) n i (char i)) mostLength) (len .ensures .is)
 
 returns : tie.Need-returns

@@ -1,0 +1,127 @@
+// The paper's run cases: what the whole call answers at its limits, for each refusal 1 to 8 with its place, and where two refusals hold at once.
+// Each case prints its answer in the form of `brailleout`. Some go on with the cells and pages; the others say whether the bytes lent are as they were.
+ghost use Prim.Native.Nat.{_≤_};
+ghost use lib.ListN.{length};
+ghost use Rattle.io.specs.Counts.{Counts};
+use libc::STDOUT_FILENO;
+
+// The table of the paper's examples.
+fn read_table(image: &mut [u8; 32768]) -> usize
+    ensures { λ r. ⌜ Counts r (now (image .exit)) ⌝ }
+{
+    let fd = os::open_read(&[b'c', b'a', b's', b'e', b's', b'.', b't', b'a', b'b']);
+    if fd < 0 {
+        return 0;
+    }
+    let n = io::read_full(fd, image);
+    libc::close(fd);
+    n
+}
+
+// The answer, the cells and the pages.
+fn show(image: &[u8], text: &[u8], width: usize, page: usize) {
+    let mut out = [170u8; 65536];
+    let answer = layout::emboss(image, text, width, page, &mut out);
+    printing::print_answer(answer);
+    printing::print_pages(&out[..answer.written()]);
+}
+
+// Whether every byte is 170.
+fn as_lent(bytes: &[u8]) -> bool {
+    let mut i = 0;
+    while i < bytes.len() {
+        if bytes[i] != 170 {
+            return false;
+        }
+        i += 1;
+    }
+    true
+}
+
+// The answer, and whether the output is as lent.
+fn tell(image: &[u8], text: &[u8], width: usize, page: usize, out: &mut [u8]) {
+    let answer = layout::emboss(image, text, width, page, out);
+    printing::print_answer(answer);
+    if as_lent(out) {
+        io::write_all(STDOUT_FILENO, &[b'k', b'e', b'p', b't', b'\n']);
+    } else {
+        io::write_all(
+            STDOUT_FILENO,
+            &[b'w', b'r', b'i', b't', b't', b'e', b'n', b'\n'],
+        );
+    }
+}
+
+// As `tell`, with 65,536 bytes lent.
+fn answered(image: &[u8], text: &[u8], width: usize, page: usize) {
+    let mut out = [170u8; 65536];
+    tell(image, text, width, page, &mut out);
+}
+
+// Words and paragraphs: nine A (lines of 8 and 1); `$P` with seven A (column 0); seven A and one more (a word joined would be too long); the empty text.
+fn words(image: &[u8]) {
+    show(image, &[65; 9], 8, 2);
+    show(image, &[b'$', b'P', 65, 65, 65, 65, 65, 65, 65], 8, 2);
+    show(image, &[65, 65, 65, 65, 65, 65, 65, b' ', 65], 8, 2);
+    show(image, &[], 8, 2);
+}
+
+// W 7, 8, 60, 61, and P 1, 2, 40, 41.
+fn sizes(image: &[u8]) {
+    let come = [b'C', b'O', b'M', b'E'];
+    answered(image, &come, 7, 2);
+    answered(image, &come, 8, 2);
+    answered(image, &come, 60, 2);
+    answered(image, &come, 61, 2);
+    answered(image, &come, 8, 1);
+    answered(image, &come, 8, 40);
+    answered(image, &come, 8, 41);
+}
+
+// Texts of 16,384 and 16,385 bytes.
+fn long_texts(image: &[u8]) {
+    answered(image, &[65; 16384], 8, 2);
+    answered(image, &[65; 16385], 8, 2);
+}
+
+// Refusals 7 and 8: `A|a` at 2; COME with 3 bytes of output and with none, place 4; with 4, done.
+fn text_and_room(image: &[u8]) {
+    let come = [b'C', b'O', b'M', b'E'];
+    answered(image, &[b'A', b'|', b'a'], 8, 2);
+    tell(image, &come, 8, 2, &mut [170; 3]);
+    tell(image, &come, 8, 2, &mut [170; 0]);
+    tell(image, &come, 8, 2, &mut [170; 4]);
+}
+
+// A table of 13 bytes, and where two refusals hold at once: a damaged table with a bad width; a bad width with an overlong text; an unknown character with
+// too little room; an overlong text with an unknown character.
+fn orders(image: &[u8]) {
+    answered(&[0; 13], &[65], 8, 2);
+    answered(&[0; 13], &[65], 7, 2);
+    answered(image, &[65; 16385], 7, 2);
+    tell(image, &[b'a'], 8, 2, &mut [170; 0]);
+    answered(image, &[b'a'; 16385], 8, 2);
+}
+
+fn all(image: &[u8]) {
+    words(image);
+    sizes(image);
+    long_texts(image);
+    text_and_room(image);
+    orders(image);
+}
+
+// A wrong byte: of a letter's class (2), of the blank's symbol (3), of an entry's string, which parts two that begin alike (4).
+fn main() {
+    let mut image = [0u8; 32768];
+    let held = read_table(&mut image);
+    all(&image[..held]);
+    image[31] = 6;
+    answered(&image[..held], &[65], 8, 2);
+    image[31] = 1;
+    image[0] = 33;
+    answered(&image[..held], &[65], 8, 2);
+    image[0] = 32;
+    image[130] = 67;
+    answered(&image[..held], &[65], 8, 2);
+}
