@@ -132,7 +132,7 @@ pub(crate) fn consume(
 {
     let mut states = start();
     let mut at = 0;
-    let mut pieces = 0;
+    let mut pieces: usize = 0;
     let mut next = 0;
     while at < text.len() {
         let made = front_piece(image, s, setting, states, &text[at..], signs, next);

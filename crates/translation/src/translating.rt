@@ -32,12 +32,13 @@ fn translate_by(
     if 16384 < text.len() {
         return Translation::LongText;
     }
+    let mut buffer = [0u8; 16384];
+    let n = collapse(text, &mut buffer);
+    let collapsed = &buffer[..n];
     match first_unknown(image, s, text) {
         Found::At(i) => Translation::Unknown(i as usize),
         Found::Nothing => {
-            let mut collapsed = [0u8; 16384];
-            let n = collapse(text, &mut collapsed);
-            let counts = consume(image, s, setting, &collapsed[..n], signs);
+            let counts = consume(image, s, setting, collapsed, signs);
             Translation::Done {
                 pieces: counts.pieces,
                 signs: counts.signs,

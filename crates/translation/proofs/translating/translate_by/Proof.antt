@@ -13,32 +13,31 @@ use Rattle.translation.proofs.translating.translate_by.Tie as tie
 returns : tie.Need-returns
 returns c = too-long _ _ _ _ (c .if1 .taken)
 
-first-unknown-requires : tie.Need-first-unknown-requires
-first-unknown-requires c κs = search needs
-
-enum-known-i : tie.Need-enum-known-i
-enum-known-i c = search needs
-
-cast-t14 : tie.Need-cast-t14
-cast-t14 c = search needs
-
-enum-told : tie.Need-enum-told
-enum-told c = search needs
-
 slice-aggregate-collapse : tie.Need-slice-aggregate-collapse
 slice-aggregate-collapse c = search needs
 
 collapse-requires : tie.Need-collapse-requires
 collapse-requires c κs = search needs
 
-array-share-prefix-collapsed : tie.Need-array-share-prefix-collapsed
-array-share-prefix-collapsed c = search needs
+array-share-prefix-buffer : tie.Need-array-share-prefix-buffer
+array-share-prefix-buffer c = search needs
 
-slice-aggregate-consume : tie.Need-slice-aggregate-consume
-slice-aggregate-consume c =
-    let e = front-is (c .before .before .collapse .ensures) in
-    let n = front-long (c .before .before .collapse .ensures) in
-    rw e n
+slice-aggregate-collapsed : tie.Need-slice-aggregate-collapsed
+slice-aggregate-collapsed c =
+    let wrote = c .before .before .collapse .ensures in
+    rw (front-is wrote) (front-long wrote)
+
+first-unknown-requires : tie.Need-first-unknown-requires
+first-unknown-requires c κs = search needs
+
+enum-known-i : tie.Need-enum-known-i
+enum-known-i c = search needs
+
+cast-t18 : tie.Need-cast-t18
+cast-t18 c = search needs
+
+enum-told : tie.Need-enum-told
+enum-told c = search needs
 
 consume-requires : tie.Need-consume-requires
 consume-requires c κs =
@@ -46,37 +45,37 @@ consume-requires c κs =
     let most = collapsed-at-most (start .args .text .now) in
     let short = c .before .before .before .before .before .before .before .before .if1 .left in
     let room = start .pre .1 in
-    (start .pre .0, rw (front-is (c .before .before .before .collapse .ensures)) (omega arith))
+    (start .pre .0, rw (front-is (c .before .before .before .before .before .before .collapse .ensures)) (omega arith))
 
 returns-2 : tie.Need-returns-2
 returns-2 c =
-    let found-is = sym (c .before .before .before .first-unknown .ensures) ∙ ap found (c .before .i .given .1) in
-    unknown-at _ _ _ _ (c .before .before .before .before .if1 .left) _ found-is
+    let known = c .before in
+    let place = sym (known .before .before .first-unknown .ensures) ∙ ap found (known .i .given .1) in
+    unknown-at _ _ _ _ (c .before .before .before .before .before .before .before .before .if1 .left) _ place
 
 same-length : tie.Need-same-length
 same-length c = search needs
 
 returns-3 : tie.Need-returns-3
 returns-3 c =
-    let a = c .before .before .before .before .before .before .before .before .before .before .before .before .before .before .before .args in
-    let told = c .before .before .before .before .before .before .before .before in
+    let told = c .before .before .before .before in
     let known = sym (told .before .before .first-unknown .ensures) ∙ ap found (told .enum-told .given .1) in
-    all-done _ _ _ _ (told .before .before .before .if1 .left) known
-    (rw (front-is (c .before .before .before .before .before .before .collapse .ensures)) at (c .before .before .consume .ensures))
+    all-done _ _ _ _ (c .before .before .before .before .before .before .before .before .before .before .before .if1 .left) known
+    (rw (front-is (c .before .before .before .before .before .before .before .before .before .collapse .ensures)) at (c .before .before .consume .ensures))
 
 pub translate-by-spec : {M : Type 1} → statement M
 translate-by-spec =
     tie.close
     (tie.spec
     returns
-    first-unknown-requires
-    enum-known-i
-    cast-t14
-    enum-told
     slice-aggregate-collapse
     collapse-requires
-    array-share-prefix-collapsed
-    slice-aggregate-consume
+    array-share-prefix-buffer
+    slice-aggregate-collapsed
+    first-unknown-requires
+    enum-known-i
+    cast-t18
+    enum-told
     consume-requires
     returns-2
     same-length
