@@ -77,6 +77,16 @@ pub fn case(seed: u64) -> Case {
             table.alphabet.retain(|letter| letter[0] != b' ');
             table.image()
         }
+        75..=78 if !table.entries.is_empty() => {
+            let mut damaged = table.clone();
+            wrong_entry(random, &mut damaged);
+            damaged.image()
+        }
+        79..=80 => {
+            let mut damaged = table.clone();
+            wrong_letter(random, &mut damaged);
+            damaged.image()
+        }
         _ => damaged(random, &table),
     };
     let text = text(random, &table);
@@ -242,9 +252,9 @@ fn decisions(random: &mut Random, classes: usize, variables: usize) -> Vec<Vec<u
         .collect()
 }
 
-/// One section, or one number of the trailer, just beyond its limit.
+/// One section, or one number of the trailer, just beyond its limit, and all else as it has to be.
 fn beyond_a_limit(random: &mut Random, table: &mut Table) {
-    let columns = table.classes as usize + table.variables as usize;
+    let (classes, variables) = (table.classes as usize, table.variables as usize);
     match random.between(0, 8) {
         0 => table.alphabet.clear(),
         1 => {
@@ -261,15 +271,71 @@ fn beyond_a_limit(random: &mut Random, table: &mut Table) {
             table.entries.resize(1200, last);
         }
         2 | 3 => table.contexts.resize(6, [1; 4]),
-        4 => table.decisions.resize(21, vec![b'-'; columns]),
-        5 => table.transitions.push(vec![b'-'; table.classes as usize]),
-        6 => table.variables += 1,
-        7 => table.classes = random.any(&[0, 41, 255]),
+        4 => table.decisions.resize(21, vec![b'-'; classes + variables]),
+        5 => table.transitions.push(vec![b'-'; classes]),
+        6 => reshape(table, classes, 16),
+        7 => reshape(table, 41, variables),
         _ => {
-            table.variables = 16;
-            table.transitions.resize(16, vec![b'-'; table.classes as usize]);
-            let bytes = table.classes as usize + 16;
-            table.decisions.iter_mut().for_each(|column| column.resize(bytes, b'-'));
+            table.decisions.clear();
+            reshape(table, 0, 0);
+        }
+    }
+}
+
+/// The same table with other numbers of classes and variables.
+fn reshape(table: &mut Table, classes: usize, variables: usize) {
+    let before = table.classes as usize;
+    table.transitions.resize(variables, vec![]);
+    table.transitions.iter_mut().for_each(|transition| transition.resize(classes, b'-'));
+    for column in &mut table.decisions {
+        let mut of_variables = column.split_off(before);
+        column.resize(classes, b'-');
+        of_variables.resize(variables, b'-');
+        column.append(&mut of_variables);
+    }
+    table.classes = classes as u8;
+    table.variables = variables as u8;
+}
+
+/// One field of one alphabet record on, or just beyond, its limit.
+fn wrong_letter(random: &mut Random, table: &mut Table) {
+    let chosen = random.between(0, table.alphabet.len() - 1);
+    let other = random.between(0, table.alphabet.len() - 1);
+    let (symbol, classes) = (table.alphabet[other][0], table.classes);
+    let letter = &mut table.alphabet[chosen];
+    match random.between(0, 2) {
+        0 => letter[0] = random.any(&[symbol, symbol, b'|', 0, 10, 31, 32, 126, 127, 255]),
+        1 => letter[1] = random.any(&[0, 1, classes, classes + 1, 255]),
+        _ => letter[2] = random.any(&[0, 64, 65, 70, 73, 98, 99, 100, 255]),
+    }
+}
+
+/// One field of one contraction record on, or just beyond, its limit.
+fn wrong_entry(random: &mut Random, table: &mut Table) {
+    let chosen = random.between(0, table.entries.len() - 1);
+    let contexts = table.contexts.len() as u8;
+    let classes = table.classes;
+    let entry = &mut table.entries[chosen];
+    match random.between(0, 6) {
+        0 => entry.class = random.any(&[0, 1, classes, classes + 1, 255]),
+        1 => entry.shift = random.any(&[0, 1, entry.string.len() as u8, entry.string.len() as u8 + 1, 255]),
+        2 => entry.context = random.any(&[0, contexts, contexts + 1, 255]),
+        3 => {
+            let character = entry.string[0];
+            entry.string.resize(10, character);
+            entry.context = random.any(&[0, 1, contexts]);
+        }
+        // The length byte says 11, and the eleventh character gives way to the context.
+        4 => {
+            let character = entry.string[0];
+            entry.string.resize(11, character);
+            entry.context = 0;
+        }
+        5 => entry.signs[random.between(0, 3)] = random.any(&[0, 64, 65, 69, 70, 73, 74, 98, 99, 100]),
+        _ => {
+            entry.signs = [1, 1, 1, 1];
+            entry.signs[random.between(0, 3)] = 99;
+            entry.signs[random.between(0, 3)] = 99;
         }
     }
 }
@@ -310,7 +376,11 @@ fn damaged(random: &mut Random, table: &Table) -> Vec<u8> {
         // cut short, at the end or at the front
         17 => {
             let length = image.len();
-            let dropped = if random.once_in(2) { random.between(1, length) } else { random.between(1, length.min(20)) };
+            let dropped = match random.between(0, 3) {
+                0 => random.between(1, length),
+                1 => length - random.between(0, length.min(15)),
+                _ => random.between(1, length.min(20)),
+            };
             if random.once_in(2) {
                 image.truncate(length - dropped);
             } else {
@@ -445,4 +515,28 @@ fn room(random: &mut Random, image: &[u8], text: &[u8], w: u64, p: u64) -> usize
         _ => needed + random.between(0, 40),
     };
     room.min(LARGEST_ROOM)
+}
+
+#[cfg(test)]
+mod tests {
+    use super::*;
+
+    #[test]
+    fn sound_tables_are_accepted() {
+        for seed in 0..2000 {
+            let table = sound_table(&mut Random::new(seed));
+            let answer = emboss(&table.image(), b"", 8, 2, &mut [], &mut Notes::new());
+            assert_eq!((answer.number, answer.place), (0, 0), "seed {seed}");
+        }
+    }
+
+    #[test]
+    fn cases_keep_their_limits() {
+        for number in 0..2000 {
+            let case = case(case_seed(3, number));
+            assert!(case.image.len() <= LARGEST_IMAGE);
+            assert!(case.text.len() <= LARGEST_TEXT);
+            assert!(case.room <= LARGEST_ROOM);
+        }
+    }
 }

@@ -269,7 +269,7 @@ fn compare(settings: &Settings) -> Result<(), String> {
                     counts.with_cells += 1;
                 }
             } else {
-                notes.add_wrong_records(own_notes);
+                notes.add_wrong_table(own_notes);
             }
         }
     }

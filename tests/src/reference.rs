@@ -45,6 +45,43 @@ events! {
     WrongContext: "answer 2 in the right contexts",
     WrongTransition: "answer 2 in the transitions",
     WrongDecision: "answer 2 in the decisions",
+    UnderTrailer: "images under 14 bytes",
+    AloneMark: "wrong alone: the trailer's last two bytes",
+    AloneClasses: "wrong alone: the number of classes",
+    AloneVariables: "wrong alone: the number of state variables",
+    AloneFirstDistance: "wrong alone: the first distance",
+    AloneRise: "wrong alone: a distance that rises",
+    AloneWhole: "wrong alone: a section of broken records",
+    AloneLetters: "wrong alone: the number of alphabet records",
+    AloneEntries: "wrong alone: the number of contractions",
+    AloneContexts: "wrong alone: the number of right contexts",
+    AloneTransitions: "wrong alone: the number of transitions",
+    AloneColumns: "wrong alone: the number of decisions",
+    AloneSymbol: "wrong alone: a symbol outside 32..126",
+    AloneBar: "wrong alone: the symbol |",
+    AloneRepeated: "wrong alone: a symbol of an earlier record",
+    AloneLetterClass: "wrong alone: the class of an alphabet record",
+    AloneLetterSign: "wrong alone: the sign of an alphabet record",
+    AloneLength: "wrong alone: the length of a string",
+    AloneString: "wrong alone: a string's character",
+    AlonePast: "wrong alone: a byte past the string",
+    AloneNoContext: "wrong alone: a right context that does not exist",
+    AloneContextAtTen: "wrong alone: a right context after ten characters",
+    AloneEntryClass: "wrong alone: the class of an entry",
+    AloneShift: "wrong alone: a shift",
+    AloneSign: "wrong alone: a sign of an entry",
+    AloneAfter99: "wrong alone: a sign after a 99",
+    AloneVariableByte: "wrong alone: a decision byte for a variable",
+    AloneClassByte: "wrong alone: a decision byte for a class",
+    FullAlphabet: "tables of 63 alphabet records",
+    FullContractions: "tables of 1,199 entries",
+    FullContexts: "tables of 5 right contexts",
+    FullVariables: "tables of 15 state variables",
+    FullDecisions: "tables of 20 decision columns",
+    FullClasses: "tables of 40 classes",
+    NoEntry: "tables of no entry",
+    NoColumn: "tables of no decision column",
+    FullText: "texts of 16,384 bytes",
     BarDropped: "bars dropped",
     LineFeedTurned: "line feeds turned into blanks",
     BlankDropped: "blanks dropped from a run",
@@ -106,11 +143,20 @@ impl Notes {
         }
     }
 
-    /// Only the wrong records, for a case that was refused.
-    pub fn add_wrong_records(&mut self, other: &Notes) {
-        for event in 0..=Event::WrongDecision as usize {
+    /// Only what was wrong with the table, for a case that was refused.
+    pub fn add_wrong_table(&mut self, other: &Notes) {
+        for event in 0..=Event::AloneClassByte as usize {
             self.counts[event] += other.counts[event];
         }
+    }
+
+    /// Whether all these rules are kept; notes the one that is broken alone.
+    fn kept(&mut self, rules: &[(Event, bool)]) -> bool {
+        let broken: Vec<Event> = rules.iter().filter(|(_, kept)| !kept).map(|(event, _)| *event).collect();
+        if broken.len() == 1 {
+            self.note(broken[0]);
+        }
+        broken.is_empty()
     }
 }
 
@@ -200,6 +246,9 @@ fn press(
             return Err((7, offset as u64));
         }
     }
+    if text.len() == LONGEST_TEXT {
+        notes.note(Event::FullText);
+    }
     let collapsed = collapse(text, notes);
     let (signs, pieces) = table.translate(planted, &collapsed, notes);
     let bytes = lay_out(planted, &signs, w as usize, p as usize, notes);
@@ -213,7 +262,7 @@ fn press(
 
 /// Reads an image: refusals 1 to 4, or its table.
 fn open(image: &[u8], notes: &mut Notes) -> Result<Table, Refusal> {
-    let sections = sections(image).ok_or((1, 0))?;
+    let sections = sections(image, notes).ok_or((1, 0))?;
     let Sections { starts, classes, variables } = sections;
     let records = |section: usize, size: usize| -> Vec<(u64, &[u8])> {
         let (from, to) = (starts[section], starts[section + 1]);
@@ -225,11 +274,13 @@ fn open(image: &[u8], notes: &mut Notes) -> Result<Table, Refusal> {
 
     for (offset, record) in records(0, 3) {
         let letter = Letter { symbol: record[0], class: record[1], sign: record[2] };
-        let right = (32..=126).contains(&letter.symbol)
-            && letter.symbol != BAR
-            && table.letter(letter.symbol).is_none()
-            && class_is_right(letter.class)
-            && (letter.sign <= 64 || letter.sign == NO_CELL);
+        let right = notes.kept(&[
+            (Event::AloneSymbol, (32..=126).contains(&letter.symbol)),
+            (Event::AloneBar, letter.symbol != BAR),
+            (Event::AloneRepeated, table.letter(letter.symbol).is_none()),
+            (Event::AloneLetterClass, class_is_right(letter.class)),
+            (Event::AloneLetterSign, letter.sign <= 64 || letter.sign == NO_CELL),
+        ]);
         if !right {
             notes.note(Event::WrongAlphabet);
             return Err((2, offset));
@@ -239,13 +290,27 @@ fn open(image: &[u8], notes: &mut Notes) -> Result<Table, Refusal> {
 
     let number_of_contexts = (starts[3] - starts[2]) / 4;
     for (offset, record) in records(1, 18) {
-        match entry_of(record, &table, number_of_contexts).filter(|entry| class_is_right(entry.class)) {
-            Some(entry) => table.entries.push(entry),
-            None => {
-                notes.note(Event::WrongContraction);
-                return Err((2, offset));
-            }
+        let length = record[0] as usize;
+        let (string, past) = record[1..11].split_at(length.min(10));
+        let (context, class, shift) = (record[11] as usize, record[12], record[13] as usize);
+        let signs = [record[14], record[15], record[16], record[17]];
+        let sign_is_right = |sign: &u8| *sign <= 64 || (70..=73).contains(sign) || *sign == NO_CELL;
+        let right = notes.kept(&[
+            (Event::AloneLength, (1..=10).contains(&length)),
+            (Event::AloneString, string.iter().all(|symbol| table.letter(*symbol).is_some())),
+            (Event::AlonePast, past.iter().all(|byte| *byte == 0)),
+            (Event::AloneNoContext, context <= number_of_contexts),
+            (Event::AloneContextAtTen, length != 10 || context == 0),
+            (Event::AloneEntryClass, class_is_right(class)),
+            (Event::AloneShift, 1 <= shift && shift <= length),
+            (Event::AloneSign, signs.iter().all(sign_is_right)),
+            (Event::AloneAfter99, signs.windows(2).all(|pair| pair[0] != NO_CELL || pair[1] == NO_CELL)),
+        ]);
+        if !right {
+            notes.note(Event::WrongContraction);
+            return Err((2, offset));
         }
+        table.entries.push(Entry { string: string.to_vec(), context, class, shift, signs });
     }
 
     for (offset, record) in records(2, 4) {
@@ -266,8 +331,10 @@ fn open(image: &[u8], notes: &mut Notes) -> Result<Table, Refusal> {
 
     for (offset, record) in records(4, classes + variables) {
         let (of_classes, of_variables) = record.split_at(classes);
-        let right = of_classes.iter().all(|byte| b"GFYN-".contains(byte))
-            && of_variables.iter().all(|byte| b"YN-".contains(byte));
+        let right = notes.kept(&[
+            (Event::AloneClassByte, of_classes.iter().all(|byte| b"GFYN-".contains(byte))),
+            (Event::AloneVariableByte, of_variables.iter().all(|byte| b"YN-".contains(byte))),
+        ]);
         if !right {
             notes.note(Event::WrongDecision);
             return Err((2, offset));
@@ -281,6 +348,19 @@ fn open(image: &[u8], notes: &mut Notes) -> Result<Table, Refusal> {
     if let Some(number) = breaks_grouping(&table.entries) {
         return Err((4, (starts[1] + 18 * number) as u64));
     }
+    let sizes = [
+        (Event::FullAlphabet, table.letters.len() == 63),
+        (Event::FullContractions, table.entries.len() == 1199),
+        (Event::FullContexts, table.contexts.len() == 5),
+        (Event::FullVariables, variables == 15),
+        (Event::FullDecisions, table.columns.len() == 20),
+        (Event::FullClasses, classes == 40),
+        (Event::NoEntry, table.entries.is_empty()),
+        (Event::NoColumn, table.columns.is_empty()),
+    ];
+    for (event, _) in sizes.iter().filter(|(_, reached)| *reached) {
+        notes.note(*event);
+    }
     Ok(table)
 }
 
@@ -292,58 +372,47 @@ struct Sections {
 }
 
 /// The five sections, if the trailer and the section lengths are right.
-fn sections(image: &[u8]) -> Option<Sections> {
-    let end = image.len().checked_sub(TRAILER)?;
+fn sections(image: &[u8], notes: &mut Notes) -> Option<Sections> {
+    if image.len() < TRAILER {
+        notes.note(Event::UnderTrailer);
+        return None;
+    }
+    let end = image.len() - TRAILER;
     let trailer = &image[end..];
     let distance = |section: usize| trailer[2 * section] as usize + 256 * trailer[2 * section + 1] as usize;
     let (classes, variables) = (trailer[10] as usize, trailer[11] as usize);
-    if trailer[12] != 66 || trailer[13] != 51 {
-        return None;
+    let mut rules = vec![
+        (Event::AloneMark, trailer[12] == 66 && trailer[13] == 51),
+        (Event::AloneClasses, (1..=40).contains(&classes)),
+        (Event::AloneVariables, variables <= 15),
+        (Event::AloneFirstDistance, distance(0) == end),
+    ];
+    if (1..5).any(|section| distance(section) > distance(section - 1)) {
+        rules.push((Event::AloneRise, false));
+    } else {
+        let allowed = [
+            (Event::AloneLetters, 3, 1..=63),
+            (Event::AloneEntries, 18, 0..=1199),
+            (Event::AloneContexts, 4, 0..=5),
+            (Event::AloneTransitions, classes, variables..=variables),
+            (Event::AloneColumns, classes + variables, 0..=20),
+        ];
+        for (section, (event, size, numbers)) in allowed.into_iter().enumerate() {
+            let length = if section < 4 { distance(section) - distance(section + 1) } else { distance(section) };
+            // A record without bytes is only met where the number of classes is wrong.
+            let records = if size == 0 { 0 } else { length / size };
+            rules.push((Event::AloneWhole, records * size == length));
+            rules.push((event, numbers.contains(&records)));
+        }
     }
-    if !(1..=40).contains(&classes) || variables > 15 {
-        return None;
-    }
-    if distance(0) != end || (1..5).any(|section| distance(section) > distance(section - 1)) {
+    if !notes.kept(&rules) {
         return None;
     }
     let mut starts = [end; 6];
     for section in 0..5 {
         starts[section] = end - distance(section);
     }
-    let allowed = [
-        (3, 1..=63),
-        (18, 0..=1199),
-        (4, 0..=5),
-        (classes, variables..=variables),
-        (classes + variables, 0..=20),
-    ];
-    for (section, (size, numbers)) in allowed.into_iter().enumerate() {
-        let length = starts[section + 1] - starts[section];
-        if length % size != 0 || !numbers.contains(&(length / size)) {
-            return None;
-        }
-    }
     Some(Sections { starts, classes, variables })
-}
-
-/// The entry that a contraction record holds, if it is right but for its class.
-fn entry_of(record: &[u8], table: &Table, number_of_contexts: usize) -> Option<Entry> {
-    let length = record[0] as usize;
-    if !(1..=10).contains(&length) {
-        return None;
-    }
-    let (string, past) = record[1..11].split_at(length);
-    let context = record[11] as usize;
-    let shift = record[13] as usize;
-    let signs = [record[14], record[15], record[16], record[17]];
-    let right = string.iter().all(|symbol| table.letter(*symbol).is_some())
-        && past.iter().all(|byte| *byte == 0)
-        && context <= number_of_contexts
-        && (length < 10 || context == 0)
-        && (1..=length).contains(&shift)
-        && signs.iter().all(|sign| *sign <= 64 || (70..=73).contains(sign) || *sign == NO_CELL)
-        && signs.windows(2).all(|pair| pair[0] != NO_CELL || pair[1] == NO_CELL);
-    right.then(|| Entry { string: string.to_vec(), context, class: record[12], shift, signs })
 }
 
 /// The first record that breaks the grouping. It agrees with some earlier record in more characters than
@@ -690,6 +759,39 @@ impl Page<'_> {
             self.notes.note(event);
             self.bytes.push(65);
             self.lines_on_page = 0;
+        }
+    }
+}
+
+#[cfg(test)]
+mod tests {
+    use super::*;
+
+    /// The paper's words: a record breaks the grouping when it and some earlier record agree in their first
+    /// p characters and a record between them does not agree in those.
+    fn breaks_in_the_papers_words(strings: &[&[u8]]) -> Option<usize> {
+        let begin = |record: usize, p: usize| strings[record].get(..p);
+        (0..strings.len()).find(|&later| {
+            (0..later).any(|earlier| {
+                (1..=strings[later].len()).any(|p| {
+                    begin(earlier, p) == begin(later, p)
+                        && (earlier..later).any(|between| begin(between, p) != begin(later, p))
+                })
+            })
+        })
+    }
+
+    #[test]
+    fn grouping_is_the_papers() {
+        let strings: Vec<&[u8]> = vec![b"A", b"B", b"AA", b"AB", b"BA", b"AAA", b"AAB"];
+        // All lists of five of these strings.
+        for list in 0..strings.len().pow(5) {
+            let chosen: Vec<&[u8]> = (0..5).map(|place| strings[list / strings.len().pow(place) % strings.len()]).collect();
+            let entries: Vec<Entry> = chosen
+                .iter()
+                .map(|string| Entry { string: string.to_vec(), context: 0, class: 1, shift: 1, signs: [99; 4] })
+                .collect();
+            assert_eq!(breaks_grouping(&entries), breaks_in_the_papers_words(&chosen), "{chosen:?}");
         }
     }
 }
