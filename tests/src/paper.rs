@@ -1,6 +1,6 @@
 //! The paper's own examples and corners, by its table of 218 bytes, asked of the reference.
 
-use crate::reference::{emboss, Answer, Notes};
+use crate::reference::{emboss, emboss_planted, Answer, Notes, Planted};
 use crate::table;
 
 fn image() -> Vec<u8> {
@@ -125,4 +125,30 @@ fn grouping() {
     assert_eq!(place_of(&["COM", "CO", "COM"]), (4, 57 + 36));
     assert_eq!(place_of(&["COM", "A", "BO", "CO", "COM"]), (4, 57 + 54));
     assert_eq!(place_of(&["CO", "CO", "COM", "CA", "CO"]), (4, 57 + 72));
+}
+
+/// The paper's four errors, each by a text that shows it: what is right, and that the error gives another.
+#[test]
+fn errors_an_implementer_will_be_drawn_to() {
+    let paper = include_str!("../vectors/paper.table");
+    let shows = |planted: Planted, table: &str, text: &str, right: &[u8]| {
+        let image = table::read(table).unwrap().image();
+        let ask = |planted| {
+            let mut out = [0; 100];
+            let answer = emboss_planted(planted, &image, text.as_bytes(), 8, 2, &mut out, &mut Notes::new());
+            assert_eq!(answer.number, 0);
+            out[..answer.written as usize].to_vec()
+        };
+        assert_eq!(ask(Planted::Nothing), right, "{text}");
+        assert_ne!(ask(planted), right, "{text}");
+    };
+    // CO stands before COM: COM is never used.
+    let co_first = paper.replace("entry COM ", "entry CO 4 - = : 9 9\nentry COM ");
+    shows(Planted::LongestEntry, &co_first, "COM", &[9, 9, 13, 64, 65]);
+    // BLIND moves by one character; its right context is the end of the text all the same.
+    let short_shift = paper.replace("entry BLIND 4 1 =", "entry BLIND 4 1 1");
+    shows(Planted::ContextAfterShift, &short_shift, "BLIND", &[3, 7, 7, 10, 29, 25, 64, 65]);
+    // FUL begins no word: the variable is still no before it, and yes after it.
+    shows(Planted::StatesAfterPiece, paper, "FUL", &[11, 37, 7, 64, 65]);
+    shows(Planted::BlankLineAtTop, paper, "$SA", &[1, 64, 65]);
 }

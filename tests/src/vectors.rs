@@ -74,3 +74,19 @@ pub fn vectors(image: &[u8], words: &str) -> Result<Vec<(Case, Vec<u8>)>, String
     }
     Ok(vectors)
 }
+
+#[cfg(test)]
+mod tests {
+    use super::*;
+
+    #[test]
+    fn the_reference_prints_the_lines_of_dotsys() {
+        let image = table::read(include_str!("../vectors/dotsys.table")).unwrap().image();
+        for (case, printed) in vectors(&image, include_str!("../vectors/dotsys.vectors")).unwrap() {
+            let mut out = vec![0; case.room];
+            let answer = emboss(&case.image, &case.text, case.w, case.p, &mut out, &mut Notes::new());
+            assert_eq!(answer.number, 0);
+            assert_eq!(out[..answer.written as usize], printed, "{}", String::from_utf8_lossy(&case.text));
+        }
+    }
+}
