@@ -1,0 +1,542 @@
+//! Random cases from a seed: sound tables and damaged ones, texts dense in the table's own strings, widths
+//! and page lengths across and beyond their limits, output rooms around what is needed. The same seed gives
+//! the same case on every machine. Most cases are small; a few reach every limit.
+
+use crate::reference::{emboss, Notes};
+use crate::table::{Entry, Table};
+
+/// The limits that the byte form of a case sets.
+pub const LARGEST_IMAGE: usize = 65_536;
+pub const LARGEST_TEXT: usize = 17_000;
+pub const LARGEST_ROOM: usize = 140_000;
+
+/// What is lent to one call.
+#[derive(Clone, Debug)]
+pub struct Case {
+    pub seed: u64,
+    pub image: Vec<u8>,
+    pub text: Vec<u8>,
+    pub w: u64,
+    pub p: u64,
+    pub room: usize,
+}
+
+/// The splitmix64 generator.
+pub struct Random(u64);
+
+impl Random {
+    pub fn new(seed: u64) -> Random {
+        Random(seed)
+    }
+
+    pub fn next(&mut self) -> u64 {
+        self.0 = self.0.wrapping_add(0x9E37_79B9_7F4A_7C15);
+        let mut mixed = self.0;
+        mixed = (mixed ^ (mixed >> 30)).wrapping_mul(0xBF58_476D_1CE4_E5B9);
+        mixed = (mixed ^ (mixed >> 27)).wrapping_mul(0x94D0_49BB_1331_11EB);
+        mixed ^ (mixed >> 31)
+    }
+
+    /// A number from `low` to `high`, both included.
+    fn between(&mut self, low: usize, high: usize) -> usize {
+        low + (self.next() % (high - low + 1) as u64) as usize
+    }
+
+    /// True once in `times`.
+    fn once_in(&mut self, times: u64) -> bool {
+        self.next() % times == 0
+    }
+
+    fn any<T: Copy>(&mut self, choices: &[T]) -> T {
+        choices[self.between(0, choices.len() - 1)]
+    }
+
+    fn shuffle<T>(&mut self, list: &mut [T]) {
+        for last in (1..list.len()).rev() {
+            list.swap(last, self.between(0, last));
+        }
+    }
+}
+
+/// The seed of case number `number` in the run of `seed`.
+pub fn case_seed(seed: u64, number: u64) -> u64 {
+    Random::new(seed ^ number.wrapping_mul(0xD134_2543_DE82_EF95)).next()
+}
+
+/// The case of a seed.
+pub fn case(seed: u64) -> Case {
+    let random = &mut Random::new(seed);
+    let mut table = sound_table(random);
+    let image = match random.between(0, 99) {
+        0..=68 => table.image(),
+        69..=72 => {
+            beyond_a_limit(random, &mut table);
+            table.image()
+        }
+        73..=74 => {
+            table.alphabet.retain(|letter| letter[0] != b' ');
+            table.image()
+        }
+        75..=78 if !table.entries.is_empty() => {
+            let mut damaged = table.clone();
+            wrong_entry(random, &mut damaged);
+            damaged.image()
+        }
+        79..=80 => {
+            let mut damaged = table.clone();
+            wrong_letter(random, &mut damaged);
+            damaged.image()
+        }
+        _ => damaged(random, &table),
+    };
+    let text = text(random, &table);
+    let (w, p) = (width(random), page_length(random));
+    let room = room(random, &image, &text, w, p);
+    Case { seed, image, text, w, p, room }
+}
+
+// Tables
+
+fn sound_table(random: &mut Random) -> Table {
+    let classes = match random.between(0, 9) {
+        0..=6 => random.between(1, 6),
+        7..=8 => random.between(1, 40),
+        _ => random.any(&[1, 39, 40]),
+    };
+    let variables = match random.between(0, 9) {
+        0..=6 => random.between(0, 3),
+        7..=8 => random.between(0, 15),
+        _ => random.any(&[0, 14, 15]),
+    };
+    let entries = match random.between(0, 999) {
+        0..=599 => random.between(0, 8),
+        600..=949 => random.between(5, 40),
+        950..=991 => random.between(30, 300),
+        992..=994 => random.between(300, 1199),
+        _ => random.any(&[1197, 1198, 1199]),
+    };
+    let alphabet = alphabet(random, classes, entries);
+    let contexts: Vec<[u8; 4]> =
+        (0..random.between(0, 5)).map(|_| [0; 4].map(|_| random.between(1, classes) as u8)).collect();
+    let symbols: Vec<u8> = alphabet.iter().map(|letter| letter[0]).collect();
+    let plain = random.once_in(4);
+    let entries = grouped_strings(random, &symbols, entries)
+        .into_iter()
+        .map(|string| entry(random, string, classes, contexts.len(), plain))
+        .collect();
+    let transitions = (0..variables)
+        .map(|_| (0..classes).map(|_| random.any(b"RSTRS---")).collect())
+        .collect();
+    Table {
+        classes: classes as u8,
+        variables: variables as u8,
+        alphabet,
+        entries,
+        contexts,
+        transitions,
+        decisions: decisions(random, classes, variables),
+    }
+}
+
+fn alphabet(random: &mut Random, classes: usize, entries: usize) -> Vec<[u8; 3]> {
+    let mut symbols: Vec<u8> = (33..=126).filter(|symbol| *symbol != b'|' && *symbol != b'.').collect();
+    random.shuffle(&mut symbols);
+    let least = if entries > 40 { 4 } else { 0 };
+    let letters = match random.between(0, 9) {
+        0..=6 => random.between(least, 8),
+        7..=8 => random.between(least, 40),
+        _ => random.any(&[60, 61]),
+    };
+    symbols.truncate(letters);
+    symbols.push(b' ');
+    if !random.once_in(6) {
+        symbols.push(b'.');
+    }
+    random.shuffle(&mut symbols);
+    let odd = random.once_in(3);
+    symbols
+        .into_iter()
+        .map(|symbol| {
+            let sign = match symbol {
+                b' ' if !random.once_in(8) => random.any(&[0, 64]),
+                _ if odd && random.once_in(4) => random.any(&[0, 64, 99]),
+                _ => random.between(1, 63) as u8,
+            };
+            [symbol, random.between(1, classes) as u8, sign]
+        })
+        .collect()
+}
+
+/// So many strings, some equal and some beginning others, in a random order that keeps the grouping.
+fn grouped_strings(random: &mut Random, symbols: &[u8], count: usize) -> Vec<Vec<u8>> {
+    let few = random.between(1, symbols.len().min(if count > 40 { 12 } else { 4 }));
+    let mut strings: Vec<Vec<u8>> = vec![];
+    while strings.len() < count {
+        let from = if random.once_in(3) { symbols } else { &symbols[..few] };
+        let mut string: Vec<u8> = match random.between(0, 7) {
+            0 if !strings.is_empty() => {
+                let other = random.between(0, strings.len() - 1);
+                strings[other].clone()
+            }
+            1..=3 if !strings.is_empty() => {
+                let other = random.between(0, strings.len() - 1);
+                let length = strings[other].len();
+                let kept = random.between(1, length);
+                strings[other][..kept].to_vec()
+            }
+            _ => vec![random.any(from)],
+        };
+        let length = match random.between(0, 15) {
+            0 => 10,
+            1..=2 => random.between(1, 10),
+            _ => random.between(1, 4),
+        };
+        if !random.once_in(4) {
+            while string.len() < length {
+                string.push(random.any(from));
+            }
+        }
+        strings.push(string);
+    }
+    arrange(random, strings, 0)
+}
+
+/// Strings that agree in their first `depth` characters, in a random order that keeps the grouping: those
+/// that end here stand alone, the others by their next character, and these blocks are shuffled.
+fn arrange(random: &mut Random, strings: Vec<Vec<u8>>, depth: usize) -> Vec<Vec<u8>> {
+    let mut blocks: Vec<(Option<u8>, Vec<Vec<u8>>)> = vec![];
+    for string in strings {
+        let next = string.get(depth).copied();
+        match blocks.iter_mut().find(|(character, _)| next.is_some() && *character == next) {
+            Some((_, block)) => block.push(string),
+            None => blocks.push((next, vec![string])),
+        }
+    }
+    random.shuffle(&mut blocks);
+    blocks
+        .into_iter()
+        .flat_map(|(next, block)| if next.is_some() { arrange(random, block, depth + 1) } else { block })
+        .collect()
+}
+
+fn entry(random: &mut Random, string: Vec<u8>, classes: usize, contexts: usize, plain: bool) -> Entry {
+    let length = string.len();
+    let context = if length < 10 && contexts > 0 && random.once_in(3) { random.between(1, contexts) } else { 0 };
+    let shift = if random.once_in(3) { random.between(1, length) } else { length };
+    let mut signs = [99; 4];
+    let least = if random.once_in(4) { 0 } else { 1 };
+    let printed = random.between(least, 4);
+    for sign in &mut signs[..printed] {
+        *sign = match random.between(0, 19) {
+            0..=1 if !plain => random.any(&[0, 64]),
+            2..=5 if !plain => random.any(&[70, 71, 72, 73]),
+            _ => random.between(1, 63) as u8,
+        };
+    }
+    Entry { string, context: context as u8, class: random.between(1, classes) as u8, shift: shift as u8, signs }
+}
+
+fn decisions(random: &mut Random, classes: usize, variables: usize) -> Vec<Vec<u8>> {
+    let columns = match random.between(0, 9) {
+        0..=6 => random.between(1, 4),
+        7..=8 => random.between(0, 20),
+        _ => random.any(&[0, 19, 20]),
+    };
+    (0..columns)
+        .map(|column| {
+            let bytes: &[u8] = if column + 1 == columns { b"GGGGYN-F" } else { b"GFYYYNNN-----" };
+            let of_classes: Vec<u8> = (0..classes).map(|_| random.any(bytes)).collect();
+            let of_variables: Vec<u8> = (0..variables).map(|_| random.any(b"YN----")).collect();
+            [of_classes, of_variables].concat()
+        })
+        .collect()
+}
+
+/// One section, or one number of the trailer, just beyond its limit, and all else as it has to be.
+fn beyond_a_limit(random: &mut Random, table: &mut Table) {
+    let (classes, variables) = (table.classes as usize, table.variables as usize);
+    match random.between(0, 8) {
+        0 => table.alphabet.clear(),
+        1 => {
+            let mut symbol = 32;
+            while table.alphabet.len() < 64 {
+                if symbol != b'|' && table.alphabet.iter().all(|letter| letter[0] != symbol) {
+                    table.alphabet.push([symbol, 1, 1]);
+                }
+                symbol += 1;
+            }
+        }
+        2 if random.once_in(4) => {
+            let last = Entry { string: vec![b' '], context: 0, class: 1, shift: 1, signs: [99; 4] };
+            table.entries.resize(1200, last);
+        }
+        2 | 3 => table.contexts.resize(6, [1; 4]),
+        4 => table.decisions.resize(21, vec![b'-'; classes + variables]),
+        5 => table.transitions.push(vec![b'-'; classes]),
+        6 => reshape(table, classes, 16),
+        7 => reshape(table, 41, variables),
+        _ => {
+            table.decisions.clear();
+            reshape(table, 0, 0);
+        }
+    }
+}
+
+/// The same table with other numbers of classes and variables.
+fn reshape(table: &mut Table, classes: usize, variables: usize) {
+    let before = table.classes as usize;
+    table.transitions.resize(variables, vec![]);
+    table.transitions.iter_mut().for_each(|transition| transition.resize(classes, b'-'));
+    for column in &mut table.decisions {
+        let mut of_variables = column.split_off(before);
+        column.resize(classes, b'-');
+        of_variables.resize(variables, b'-');
+        column.append(&mut of_variables);
+    }
+    table.classes = classes as u8;
+    table.variables = variables as u8;
+}
+
+/// One field of one alphabet record on, or just beyond, its limit.
+fn wrong_letter(random: &mut Random, table: &mut Table) {
+    let chosen = random.between(0, table.alphabet.len() - 1);
+    let other = random.between(0, table.alphabet.len() - 1);
+    let (symbol, classes) = (table.alphabet[other][0], table.classes);
+    let letter = &mut table.alphabet[chosen];
+    match random.between(0, 2) {
+        0 => letter[0] = random.any(&[symbol, symbol, b'|', 0, 10, 31, 32, 126, 127, 255]),
+        1 => letter[1] = random.any(&[0, 1, classes, classes + 1, 255]),
+        _ => letter[2] = random.any(&[0, 64, 65, 70, 73, 98, 99, 100, 255]),
+    }
+}
+
+/// One field of one contraction record on, or just beyond, its limit.
+fn wrong_entry(random: &mut Random, table: &mut Table) {
+    let chosen = random.between(0, table.entries.len() - 1);
+    let contexts = table.contexts.len() as u8;
+    let classes = table.classes;
+    let entry = &mut table.entries[chosen];
+    match random.between(0, 6) {
+        0 => entry.class = random.any(&[0, 1, classes, classes + 1, 255]),
+        1 => entry.shift = random.any(&[0, 1, entry.string.len() as u8, entry.string.len() as u8 + 1, 255]),
+        2 => entry.context = random.any(&[0, contexts, contexts + 1, 255]),
+        3 => {
+            let character = entry.string[0];
+            entry.string.resize(10, character);
+            entry.context = random.any(&[0, 1, contexts]);
+        }
+        // The length byte says 11, and the eleventh character gives way to the context.
+        4 => {
+            let character = entry.string[0];
+            entry.string.resize(11, character);
+            entry.context = 0;
+        }
+        5 => entry.signs[random.between(0, 3)] = random.any(&[0, 64, 65, 69, 70, 73, 74, 98, 99, 100]),
+        _ => {
+            entry.signs = [1, 1, 1, 1];
+            entry.signs[random.between(0, 3)] = 99;
+            entry.signs[random.between(0, 3)] = 99;
+        }
+    }
+}
+
+/// The image of a sound table, damaged.
+fn damaged(random: &mut Random, table: &Table) -> Vec<u8> {
+    let mut image = table.image();
+    let sections = table.sections();
+    let classes = table.classes as usize;
+    let sizes = [3, 18, 4, classes, classes + table.variables as usize];
+    let start = |section: usize| sections[..section].iter().map(Vec::len).sum::<usize>();
+    let filled: Vec<usize> = (0..5).filter(|section| !sections[*section].is_empty()).collect();
+    match random.between(0, 19) {
+        // one byte of a section, or two
+        0..=9 => {
+            let bytes = if random.once_in(10) { 2 } else { 1 };
+            for _ in 0..bytes {
+                let section = random.any(&filled);
+                let at = start(section) + random.between(0, sections[section].len() - 1);
+                image[at] = one_byte(random, image[at]);
+            }
+        }
+        // one byte of the trailer
+        10..=11 => {
+            let at = image.len() - random.between(1, 14);
+            image[at] = one_byte(random, image[at]);
+        }
+        // two records of a section, mostly the contractions, exchanged
+        12..=16 => {
+            let section = if random.once_in(4) || sections[1].is_empty() { random.any(&filled) } else { 1 };
+            let size = sizes[section];
+            let records = sections[section].len() / size;
+            let (one, other) = (random.between(0, records - 1), random.between(0, records - 1));
+            for byte in 0..size {
+                image.swap(start(section) + one * size + byte, start(section) + other * size + byte);
+            }
+        }
+        // cut short, at the end or at the front
+        17 => {
+            let length = image.len();
+            let dropped = match random.between(0, 3) {
+                0 => random.between(1, length),
+                1 => length - random.between(0, length.min(15)),
+                _ => random.between(1, length.min(20)),
+            };
+            if random.once_in(2) {
+                image.truncate(length - dropped);
+            } else {
+                image.drain(..dropped);
+            }
+        }
+        // lengthened, at the end or at the front
+        18 => {
+            let most = if random.once_in(100) { LARGEST_IMAGE - image.len() } else { 40 };
+            let more: Vec<u8> = (0..random.between(1, most)).map(|_| random.next() as u8).collect();
+            image = if random.once_in(2) { [image, more].concat() } else { [more, image].concat() };
+        }
+        // a byte lost or won inside a section, or a distance moved by a whole record
+        _ => {
+            let section = random.any(&filled);
+            let at = start(section);
+            match random.between(0, 2) {
+                0 => {
+                    image.remove(at);
+                }
+                1 => image.insert(at, random.next() as u8),
+                _ => {
+                    let low = image.len() - 14 + 2 * section;
+                    let distance = u16::from_le_bytes([image[low], image[low + 1]]);
+                    let moved = if random.once_in(2) {
+                        distance.wrapping_sub(sizes[section] as u16)
+                    } else {
+                        distance.wrapping_add(sizes[section] as u16)
+                    };
+                    image[low..low + 2].copy_from_slice(&moved.to_le_bytes());
+                }
+            }
+        }
+    }
+    image
+}
+
+/// Another byte in place of this one: a neighbour, one that stands on a limit, or any.
+fn one_byte(random: &mut Random, byte: u8) -> u8 {
+    match random.between(0, 3) {
+        0 => random.any(&[byte.wrapping_add(1), byte.wrapping_sub(1)]),
+        1 => random.any(&[0, 1, 6, 10, 11, 31, 32, 40, 41, 63, 64, 65, 69, 70, 73, 74, 98, 99, 100, 124, 126, 127, 255]),
+        2 => random.any(b"GFYNRST- ."),
+        _ => random.next() as u8,
+    }
+}
+
+// Texts
+
+fn text(random: &mut Random, table: &Table) -> Vec<u8> {
+    let length = match random.between(0, 999) {
+        0..=39 => random.between(0, 2),
+        40..=749 => random.between(3, 60),
+        750..=986 => random.between(40, 400),
+        987..=990 => random.between(400, 5000),
+        991..=994 => random.between(16_380, 16_384),
+        995..=997 => random.between(16_385, 16_388),
+        _ => random.any(&[16_383, 16_384, 16_385, LARGEST_TEXT]),
+    };
+    let mut symbols: Vec<u8> = table.alphabet.iter().map(|letter| letter[0]).collect();
+    symbols.push(b' ');
+    let has_period = symbols.contains(&b'.');
+    let gaps = random.any(&[3, 6, 20, 100]);
+    let mut text = vec![];
+    while text.len() < length {
+        if random.once_in(gaps) {
+            if has_period && random.once_in(3) {
+                text.push(b'.');
+            }
+            for _ in 0..random.between(1, 4) {
+                text.push(random.any(b"    \n|"));
+            }
+        }
+        match random.between(0, 19) {
+            0..=12 if !table.entries.is_empty() => {
+                let chosen = random.between(0, table.entries.len() - 1);
+                let string = &table.entries[chosen].string;
+                let kept = if random.once_in(6) { random.between(1, string.len()) } else { string.len() };
+                text.extend(&string[..kept]);
+            }
+            13 => text.push(random.any(b"|\n")),
+            _ => text.push(random.any(&symbols)),
+        }
+    }
+    text.truncate(length);
+    if !text.is_empty() && random.once_in(16) {
+        for _ in 0..random.between(1, 2) {
+            let at = random.between(0, text.len() - 1);
+            text[at] = match random.between(0, 2) {
+                0 => random.any(&[0, 9, 11, 13, 31, 127, 128, 255]),
+                1 => random.between(33, 126) as u8,
+                _ => random.next() as u8,
+            };
+        }
+    }
+    text
+}
+
+// Widths, page lengths, rooms
+
+fn width(random: &mut Random) -> u64 {
+    match random.between(0, 49) {
+        0 => random.any(&[0, 1, 7, 61, 64, 255, 264, 1 << 32, (1 << 32) + 8, u64::MAX]),
+        1 => random.any(&[7, 61]),
+        2..=5 => random.any(&[8, 9, 59, 60]),
+        6..=30 => random.between(8, 14) as u64,
+        _ => random.between(8, 60) as u64,
+    }
+}
+
+fn page_length(random: &mut Random) -> u64 {
+    match random.between(0, 49) {
+        0 => random.any(&[0, 1, 41, 42, 255, 258, 1 << 32, (1 << 32) + 2, u64::MAX]),
+        1 => random.any(&[1, 41]),
+        2..=5 => random.any(&[2, 3, 39, 40]),
+        6..=35 => random.between(2, 6) as u64,
+        _ => random.between(2, 40) as u64,
+    }
+}
+
+fn room(random: &mut Random, image: &[u8], text: &[u8], w: u64, p: u64) -> usize {
+    let mut ample = vec![0; 160_000];
+    let answer = emboss(image, text, w, p, &mut ample, &mut Notes::new());
+    let needed = answer.written as usize;
+    let room = match random.between(0, 39) {
+        0..=1 => needed.saturating_sub(1),
+        2 => random.between(0, needed),
+        3 => needed / 2,
+        4 if random.once_in(20) => random.between(needed, needed.max(LARGEST_ROOM)),
+        4..=20 => needed,
+        21..=24 => needed + 1,
+        _ => needed + random.between(0, 40),
+    };
+    room.min(LARGEST_ROOM)
+}
+
+#[cfg(test)]
+mod tests {
+    use super::*;
+
+    #[test]
+    fn sound_tables_are_accepted() {
+        for seed in 0..2000 {
+            let table = sound_table(&mut Random::new(seed));
+            let answer = emboss(&table.image(), b"", 8, 2, &mut [], &mut Notes::new());
+            assert_eq!((answer.number, answer.place), (0, 0), "seed {seed}");
+        }
+    }
+
+    #[test]
+    fn cases_keep_their_limits() {
+        for number in 0..2000 {
+            let case = case(case_seed(3, number));
+            assert!(case.image.len() <= LARGEST_IMAGE);
+            assert!(case.text.len() <= LARGEST_TEXT);
+            assert!(case.room <= LARGEST_ROOM);
+        }
+    }
+}
