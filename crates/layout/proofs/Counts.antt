@@ -10,15 +10,15 @@ use lib.ListN.{length, length-append, length-replicate}
 use borrow.Author.Tests.{ne-eqb}
 use Rattle.table.specs.Numbers.{blankCell}
 use Rattle.table.specs.Cells.{mostCell}
+use Rattle.table.specs.Lists.{All, empty, _and_}
+use Rattle.table.proofs.Lists.{all-append, all-replicate, all-weaker}
 use Rattle.layout.specs.Numbers.{lineMark, pageMark}
 use Rattle.layout.specs.Words.{Item}
 use Rattle.layout.specs.Place.{start, cellsAfter, afterItem, itemBytes, afterItems, itemsBytes, volumeEnd, volume}
 use Rattle.layout.specs.Pages.{count}
-use Rattle.layout.specs.Lists.{All, empty, _and_}
 use Rattle.layout.specs.Fitting.{WordFits, ItemFits, Fitting}
 use Rattle.layout.specs.Right.{IsCell}
 use Rattle.layout.specs.declared.Place.{Place}
-use Rattle.layout.proofs.Lists.{all-append, all-replicate, all-weaker}
 use Rattle.layout.proofs.Kept.{Kept, items-keep, volume-keeps}
 
 -- ---- Cells: the blanks and the word that a move writes

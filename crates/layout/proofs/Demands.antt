@@ -11,6 +11,7 @@ use Rattle.table.specs.Table.{tableOf}
 use Rattle.table.specs.Verdict.{verdictOf}
 use Rattle.table.specs.declared.Verdict.{Verdict}
 use Rattle.table.specs.declared.Verdict.the-variants.{Accepted}
+use Rattle.table.specs.Lists.{All}
 use Rattle.translation.specs.Collapse.{collapsed}
 use Rattle.translation.specs.Pieces.{characters, piecesOf, signsOf}
 use Rattle.translation.specs.declared.Setting.{Setting}
@@ -18,7 +19,7 @@ use Rattle.translation.proofs.Accepted.{accepted-sound}
 use Rattle.translation.proofs.Consumed.{consumed}
 use Rattle.translation.proofs.Signs.{signs-printed}
 use Rattle.layout.specs.Numbers.{leastWidth, mostWidth, leastPage, mostPage, lineMark, pageMark}
-use Rattle.layout.specs.Lists.{All, only}
+use Rattle.layout.specs.Lists.{only}
 use Rattle.layout.specs.Words.{Item, itemsOf}
 use Rattle.layout.specs.Place.{volume}
 use Rattle.layout.specs.Pages.{pagesOf, bytesOfPages, count}

@@ -10,6 +10,7 @@ use native.Mathlib.Omega.{arith}
 use lib.Dec.{leb, ltb, eqb}
 use lib.ListN.{length}
 use borrow.Author.Tests.{ltb-true, ltb-false, leb-true, eqb-true, eqb-false}
+use Rattle.table.specs.Lists.{empty, _and_}
 use Rattle.layout.specs.Numbers.{gapBlanks, paragraphBlanks, lineMark, pageMark}
 use Rattle.layout.specs.Words.{Item, word, lineEnd, emptyLine, paragraph, pageEnd}
 use Rattle.layout.specs.Place.{
@@ -44,7 +45,6 @@ use Rattle.layout.specs.Place.{
 }
 use Rattle.layout.specs.Permitted.{Spot}
 use Rattle.layout.specs.Spots.{spot, spotAfter, spotsFrom}
-use Rattle.layout.specs.Lists.{empty, _and_}
 use Rattle.layout.specs.Fitting.{WordFits, Fitting, wordsIn}
 use Rattle.layout.specs.declared.Place.{Place}
 use Rattle.layout.proofs.Moves.{line-is-fresh, line-end-is-fresh, page-end-lined, page-end-empty, held-or-empty}

@@ -15,13 +15,14 @@ use Rattle.table.specs.Table.{tableOf}
 use Rattle.table.specs.Verdict.{verdictOf}
 use Rattle.table.specs.declared.Verdict.the-variants.{Accepted}
 use Rattle.table.proofs.Refusals.{no-refusal-1, no-refusal-2, no-refusal-3, no-refusal-4, accepted}
+use Rattle.table.specs.Lists.{All}
 use Rattle.translation.specs.Collapse.{collapsed}
 use Rattle.translation.specs.Pieces.{piecesOf}
 use Rattle.translation.proofs.Chosen.{first-in-order}
 use Rattle.translation.proofs.States.{states-start, states-move}
 use Rattle.translation.specs.Translate.{blankFollows}
 use Rattle.layout.specs.Numbers.{leastWidth, mostWidth, leastPage, mostPage}
-use Rattle.layout.specs.Lists.{All, only}
+use Rattle.layout.specs.Lists.{only}
 use Rattle.layout.specs.Pages.{pagesOf, bytesOfPages}
 use Rattle.layout.specs.Spots.{layoutOf}
 use Rattle.layout.specs.Fitting.{wordsIn}

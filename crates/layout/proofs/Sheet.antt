@@ -10,15 +10,16 @@ use lib.ListN.{length, getD, replicate, length-append}
 use lib.Seq.{getD-append-seam, getD-append-add}
 use borrow.Author.Tests.{ne-eqb}
 use Rattle.table.specs.Numbers.{blankCell}
+use Rattle.table.specs.Lists.{All, empty, _and_}
+use Rattle.table.proofs.Lists.{all-append, all-at}
 use Rattle.layout.specs.Numbers.{lineMark, pageMark}
 use Rattle.layout.specs.Words.{Item}
 use Rattle.layout.specs.Place.{start, cellsAfter, volumeEnd, volume}
 use Rattle.layout.specs.Pages.{Line, Page, bytesOfLines, bytesOfPages, pagesFrom, pagesOf, count}
-use Rattle.layout.specs.Lists.{All, empty, _and_}
 use Rattle.layout.specs.Fitting.{WordFits, Fitting}
 use Rattle.layout.specs.Right.{IsCell, LineRight, PageRight}
 use Rattle.layout.specs.declared.Place.{Place}
-use Rattle.layout.proofs.Lists.{all-append, all-at, flatten-append}
+use Rattle.layout.proofs.Lists.{flatten-append}
 use Rattle.layout.proofs.Kept.{Kept, celled, lined, paged, opened, AtEnd, volume-ends, volume-keeps}
 use Rattle.layout.proofs.Counts.{cells-after, length-after, lines-are-64s, pages-are-65s}
 

@@ -1,9 +1,9 @@
 -- What the readers answer is what the table's lists hold, for the layers above: an accepted image's records lie within it, so each element of a list is its
 -- record as it is read.
-use Prim.Native.Nat.{ℕ, zero, suc, _+_, _≤_, _<_}
+use Prim.Native.Nat.{ℕ, _+_, _≤_, _<_}
 use mathlib.Core.Bool.{true}
-use mathlib.Core.List.{List, [], _∷_}
-use mathlib.Core.Path.{_≡_, refl, sym, _∙_, ap}
+use mathlib.Core.List.{List}
+use mathlib.Core.Path.{_≡_, sym, _∙_, ap}
 use native.Mathlib.Omega.{arith}
 use lib.ListN.{length, getD, drop, length-drop}
 use lib.Seq.{length-take-le, getD-take, getD-drop}
@@ -31,16 +31,12 @@ use Rattle.table.specs.Laid.{SectionsLaid}
 use Rattle.table.specs.declared.Section.{Section}
 use Rattle.table.specs.declared.Sections.{Sections}
 use Rattle.table.specs.declared.Verdict.the-variants.{Accepted}
-use Rattle.table.proofs.Lists.{length-listOf, getD-listOf}
+use Rattle.table.proofs.Lists.{length-listOf, getD-listOf, getD-there}
 use Rattle.table.proofs.Frame.{frame-right, sections-framed}
 use Rattle.table.proofs.Laid.{sections-laid}
 use Rattle.table.proofs.Refusals.{accepted}
 
 -- ---- The lists of a table hold the records of its image: so many, and each at its place
-
-pub table-located : (image : List ℕ) → tableOf image ≡ tableIn image (sectionsOf image)
-unfolding tableOf
-table-located image = refl
 
 module _ (image : List ℕ) (s : Sections) where
   pub letters-long : length (tableIn image s .letters) ≡ s .alphabet .records
@@ -84,12 +80,6 @@ module _ (image : List ℕ) (s : Sections) where
   column-at k d l = getD-listOf (columnAt image s) (s .decisions .records) k d l
 
 -- ---- A part of a record that lies within the image
-
--- past no end, what stands for a missing element doesn't matter
-getD-there : (xs : List ℕ) (i d e : ℕ) → i < length xs → getD xs i d ≡ getD xs i e
-getD-there [] i d e l = absurd (omega arith)
-getD-there (x ∷ xs) zero d e l = refl
-getD-there (x ∷ xs) (suc i) d e l = getD-there xs i d e (omega arith)
 
 module _ (image : List ℕ) (section : Section) (k j n : ℕ) (inside : offset section k + j + n ≤ length image) where
   pub part-long : length (recordPart image section k j n) ≡ n
