@@ -102,28 +102,6 @@ module _ (image : List ℕ) (section : Section) (k j n : ℕ) (inside : offset s
 abbrev pub stringLength : List ℕ → Sections → ℕ → ℕ
 stringLength image s k = recordByte image (s .contractions) k lengthByte
 
--- ---- The parts of records that are read lie within the image, where its sections are laid and its records right
-
-module _ (image : List ℕ) (s : Sections) (laid : SectionsLaid image s) (right : RecordsRight image s) where
-  pub string-inside : (k : ℕ) → k < s .contractions .records → offset (s .contractions) k + stringByte + stringLength image s k ≤ length image
-  unfolding sectionNamed
-  string-inside k l = let lies = laid .contractions-laid .lies k l in let short = right contractions k l .length-right in omega arith
-
-  pub signs-inside : (k : ℕ) → k < s .contractions .records → offset (s .contractions) k + signsByte + entrySigns ≤ length image
-  signs-inside k l = let lies = laid .contractions-laid .lies k l in omega arith
-
-  pub context-inside : (k : ℕ) → k < s .contexts .records → offset (s .contexts) k + 0 + contextSize ≤ length image
-  context-inside k l = let lies = laid .contexts-laid .lies k l in omega arith
-
-  pub transition-inside : (k : ℕ) → k < s .transitions .records → offset (s .transitions) k + 0 + s .classes ≤ length image
-  transition-inside k l = let lies = laid .transitions-laid .lies k l in omega arith
-
-  pub classes-inside : (k : ℕ) → k < s .decisions .records → offset (s .decisions) k + 0 + s .classes ≤ length image
-  classes-inside k l = let lies = laid .decisions-laid .lies k l in omega arith
-
-  pub variables-inside : (k : ℕ) → k < s .decisions .records → offset (s .decisions) k + s .classes + s .variables ≤ length image
-  variables-inside k l = let lies = laid .decisions-laid .lies k l in omega arith
-
 -- ---- What the readers answer of a record
 
 abbrev pub letterRead : List ℕ → Sections → ℕ → Letter
@@ -154,6 +132,32 @@ columnRead image s k =
       byClass = partWithin image (s .decisions) k 0 (s .classes);
       conditions = partWithin image (s .decisions) k (s .classes) (s .variables);
     }
+
+-- ---- The parts of records that are read lie within the image, where its sections are laid and its records right
+
+module _ (image : List ℕ) (s : Sections) (laid : SectionsLaid image s) (right : RecordsRight image s) where
+  pub string-inside : (k : ℕ) → k < s .contractions .records → offset (s .contractions) k + stringByte + stringLength image s k ≤ length image
+  unfolding sectionNamed
+  string-inside k l = let lies = laid .contractions-laid .lies k l in let short = right contractions k l .length-right in omega arith
+
+  pub signs-inside : (k : ℕ) → k < s .contractions .records → offset (s .contractions) k + signsByte + entrySigns ≤ length image
+  signs-inside k l = let lies = laid .contractions-laid .lies k l in omega arith
+
+  pub context-inside : (k : ℕ) → k < s .contexts .records → offset (s .contexts) k + 0 + contextSize ≤ length image
+  context-inside k l = let lies = laid .contexts-laid .lies k l in omega arith
+
+  pub context-within : (k : ℕ) (d : List ℕ) → k < s .contexts .records → getD (tableIn image s .contexts) k d ≡ contextRead image s k
+  unfolding contextAt
+  context-within k d l = context-at image s k d l ∙ sym (part-within image (s .contexts) k 0 contextSize (context-inside k l))
+
+  pub transition-inside : (k : ℕ) → k < s .transitions .records → offset (s .transitions) k + 0 + s .classes ≤ length image
+  transition-inside k l = let lies = laid .transitions-laid .lies k l in omega arith
+
+  pub classes-inside : (k : ℕ) → k < s .decisions .records → offset (s .decisions) k + 0 + s .classes ≤ length image
+  classes-inside k l = let lies = laid .decisions-laid .lies k l in omega arith
+
+  pub variables-inside : (k : ℕ) → k < s .decisions .records → offset (s .decisions) k + s .classes + s .variables ≤ length image
+  variables-inside k l = let lies = laid .decisions-laid .lies k l in omega arith
 
 -- ---- An accepted image
 
@@ -188,9 +192,8 @@ module _ (image : List ℕ) (accepts : verdictOf image ≡ Accepted) where
       )
 
   pub context-read : (k : ℕ) (d : List ℕ) → k < s .contexts .records → getD (tableOf image .contexts) k d ≡ contextRead image s k
-  unfolding tableOf contextAt
-  context-read k d l =
-      context-at image s k d l ∙ sym (part-within image (s .contexts) k 0 contextSize (context-inside image s accepted-laid accepted-right k l))
+  unfolding tableOf
+  context-read k d l = context-within image s accepted-laid accepted-right k d l
 
   pub transition-read : (k : ℕ) (d : List ℕ) → k < s .transitions .records → getD (tableOf image .transitions) k d ≡ transitionRead image s k
   unfolding tableOf transitionAt
