@@ -2,7 +2,7 @@
 -- have; a cell is at most 63, so that it is no mark.
 use Prim.Native.Nat.{ℕ, _+_, _<_}
 use mathlib.Core.Bool.{Bool, true, false}
-use mathlib.Core.List.{List, [], _∷_, _++_, append-nil}
+use mathlib.Core.List.{List, [], _∷_, _++_}
 use mathlib.Core.Path.{_≡_, refl}
 use native.Mathlib.Omega.{arith}
 use lib.Dec.{eqb}
@@ -14,9 +14,9 @@ use Rattle.table.specs.Lists.{All, empty, _and_}
 use Rattle.table.proofs.Lists.{all-append, all-replicate, all-weaker}
 use Rattle.layout.specs.Numbers.{lineMark, pageMark}
 use Rattle.layout.specs.Words.{Item}
-use Rattle.layout.specs.Place.{start, cellsAfter, afterItem, itemBytes, afterItems, itemsBytes, volumeEnd, volume}
+use Rattle.layout.specs.Place.{start, cellsAfter, afterItems, itemsBytes, volumeEnd, volume}
 use Rattle.layout.specs.Pages.{count}
-use Rattle.layout.specs.Fitting.{WordFits, ItemFits, Fitting}
+use Rattle.layout.specs.Fitting.{WordFits, Fitting}
 use Rattle.layout.specs.Right.{IsCell}
 use Rattle.layout.specs.declared.Place.{Place}
 use Rattle.layout.proofs.Kept.{Kept, items-keep, volume-keeps}
@@ -85,10 +85,6 @@ module _ (W P : ℕ) (p : Place) where
   unfolding count
   items-counted items fits room =
       items-keep W P _ counted p items fits room (record { written = omega arith; lines = omega arith; pages = omega arith })
-
-  pub item-counted : (item : Item) → ItemFits W item → p .line < P → Counted p (itemBytes W P p item) (afterItem W P p item)
-  unfolding itemsBytes afterItems
-  item-counted item fits room = rw append-nil at (items-counted (item ∷ []) (fits and empty) room)
 
 -- ---- The whole volume
 

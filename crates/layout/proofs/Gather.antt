@@ -14,6 +14,7 @@ use lib.Seq.{take-at, drop-at, drop-cons}
 use borrow.Author.Tests.{le-leb, lt-leb, leb-true, leb-false, lt-ltb, le-ltb, eqb-true, eqb-false, eq-eqb, ne-eqb}
 use Rattle.table.specs.Numbers.{blankCell, signLineEnd, signEmptyLine, signParagraph, signPageEnd}
 use Rattle.table.specs.Search.{isThere}
+use Rattle.layout.specs.Numbers.{mostWidth}
 use Rattle.layout.specs.Words.{Item, word, lineEnd, emptyLine, paragraph, pageEnd, formatOf, closed, gathered, cutWithin, parts, cutItem, cut}
 use Rattle.layout.specs.Place.{afterWord, wordBytes, afterItem, itemBytes, afterItems, itemsBytes, afterPageEnd, pageEndBytes, ended}
 use Rattle.layout.specs.Gather.{Modest, afterFlush, flushBytes, afterFormat, formatBytes, stepped, waiting, stepBytes, afterRest, restBytes}
@@ -299,8 +300,8 @@ module _ (W P : ℕ) where
       go (some pageEnd) e = unfold afterFormat afterItem in rw (e, afterFormat) (modest-page-end P m p d)
       go (some (word cells)) e = absurd (format-no-word g cells e)
 
-  -- a sign adds at most 70 to each number, where fewer than 61 cells wait
-  pub modest-step : (m n g : ℕ) (p : Place) → n < 61 → Modest m p → Modest (m + 70) (stepped W P p n g .place)
+  -- a sign adds at most 70 to each number, where no more cells wait than a line holds
+  pub modest-step : (m n g : ℕ) (p : Place) → n ≤ mostWidth → Modest m p → Modest (m + 70) (stepped W P p n g .place)
   unfolding stepped
   modest-step m n g p h d = go (eqb g blankCell) (isThere (formatOf g)) (eqb (n + 1) W) refl refl refl
     where
