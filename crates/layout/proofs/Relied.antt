@@ -1,10 +1,9 @@
 -- The three demands of the whole call. Each theorem has one hypothesis, the promise of `emboss`: whatever answer and bytes afterwards it allows for an
 -- image, a text, W, P and the bytes lent, they have the property.
 use Prim.Native.Nat.{ℕ, suc, _<_, _≤_}
-use mathlib.Core.Bool.{Bool, true, false}
 use mathlib.Core.List.{List, _++_, flatten}
 use mathlib.Core.Logic.{_↔_}
-use mathlib.Core.Path.{_≡_, refl, sym, _∙_, ap, subst, subst₂}
+use mathlib.Core.Path.{_≡_, refl, sym, _∙_, ap, subst}
 use native.Mathlib.Decide.{decLt}
 use native.Mathlib.Omega.{arith}
 use lib.ListN.{length, take, drop, length-append}
@@ -29,7 +28,7 @@ use Rattle.layout.specs.Fitting.{wordsIn}
 use Rattle.layout.specs.Right.{PageRight}
 use Rattle.layout.specs.Signs.{isDotted}
 use Rattle.layout.specs.Drawn.{volumeLines, Drawn}
-use Rattle.layout.specs.Emboss.{number, place, written, pieces, lines, pages, Outcome, refused, done, bytesOf, embossFollowed, embossing}
+use Rattle.layout.specs.Emboss.{number, place, written, pieces, lines, pages, Outcome, done, bytesOf, embossFollowed, embossing}
 use Rattle.layout.specs.Refusals.{Line, line-1, line-2, line-3, line-4, line-5, line-8, FirstLine}
 use Rattle.layout.specs.Promises.{Embossed}
 use Rattle.layout.specs.Relied.{wrote, textPieces, textItems, Untouched, Bounded, Translates, LaysOut, Earliest}
