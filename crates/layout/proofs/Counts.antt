@@ -14,7 +14,7 @@ use Rattle.table.specs.Lists.{All, empty, _and_}
 use Rattle.table.proofs.Lists.{all-append, all-replicate, all-weaker}
 use Rattle.layout.specs.Numbers.{lineMark, pageMark}
 use Rattle.layout.specs.Words.{Item}
-use Rattle.layout.specs.Place.{start, cellsAfter, afterItems, itemsBytes, volumeEnd, volume}
+use Rattle.layout.specs.Place.{start, afterPage, afterCells, cellsAfter, afterItems, itemsBytes, volumeEnd, volume}
 use Rattle.layout.specs.Pages.{count}
 use Rattle.layout.specs.Fitting.{WordFits, Fitting}
 use Rattle.layout.specs.Right.{IsCell}
@@ -56,7 +56,7 @@ pub record Counted (p : Place) (bytes : List ℕ) (q : Place) : Type 0 where
 
 module _ (W P : ℕ) (p : Place) where
   counted : Kept W P (λ bytes words spots q. Counted p bytes q)
-  unfolding count
+  unfolding count afterCells afterPage
   counted =
       record {
         cells = λ bytes words spots q blanks w fits h r.
