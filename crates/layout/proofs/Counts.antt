@@ -14,12 +14,12 @@ use Rattle.table.specs.Lists.{All, empty, _and_}
 use Rattle.table.proofs.Lists.{all-append, all-replicate, all-weaker}
 use Rattle.layout.specs.Numbers.{lineMark, pageMark}
 use Rattle.layout.specs.Words.{Item}
-use Rattle.layout.specs.Place.{start, afterPage, afterCells, cellsAfter, afterItems, itemsBytes, volumeEnd, volume}
+use Rattle.layout.specs.Place.{start, afterPage, afterCells, cellsAfter, volumeEnd, volume}
 use Rattle.layout.specs.Pages.{count}
 use Rattle.layout.specs.Fitting.{WordFits, Fitting}
 use Rattle.layout.specs.Right.{IsCell}
 use Rattle.layout.specs.declared.Place.{Place}
-use Rattle.layout.proofs.Kept.{Kept, items-keep, volume-keeps}
+use Rattle.layout.proofs.Kept.{Kept, volume-keeps}
 
 -- ---- Cells: the blanks and the word that a move writes
 
@@ -80,11 +80,6 @@ module _ (W P : ℕ) (p : Place) where
             };
         opens = λ bytes words spots q r. record { written = r .written; lines = r .lines; pages = r .pages };
       }
-
-  pub items-counted : (items : List Item) → Fitting W items → p .line < P → Counted p (itemsBytes W P p items) (afterItems W P p items)
-  unfolding count
-  items-counted items fits room =
-      items-keep W P _ counted p items fits room (record { written = omega arith; lines = omega arith; pages = omega arith })
 
 -- ---- The whole volume
 

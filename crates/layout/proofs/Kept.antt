@@ -221,10 +221,6 @@ module _ (W P : ℕ) (R : List ℕ → List (List ℕ) → List Spot → Place �
   items-held bytes words spots p (pageEnd ∷ items) (fits and rest) held =
       rw append-assoc at (items-held (bytes ++ pageEndBytes P p) words spots _ items rest (page-end-kept bytes words spots p held))
 
-  pub items-keep : (p : Place) (items : List Item) → Fitting W items → p .line < P → R [] [] [] p
-      → R (itemsBytes W P p items) (wordsIn items) (spotsFrom W P p items) (afterItems W P p items)
-  items-keep p items fits room r = items-held [] [] [] p items fits (record { room = room; holds = r }) .holds
-
   module _ (items : List Item) (fits : Fitting W items) (room : 0 < P) (outset : R [] [] [] start) where
     at-the-end : Held (itemsBytes W P start items) (wordsIn items) (spotsFrom W P start items) (afterItems W P start items)
     at-the-end = items-held [] [] [] start items fits (record { room = room; holds = outset })
