@@ -3,10 +3,10 @@ use Prim.Native.Nat.{ℕ, pred, _-_, _<_}
 use mathlib.Core.Bool.{Bool, true, false, _&&_}
 use mathlib.Core.List.{List, []}
 use mathlib.Core.Logic.{_≢_, inl, inr}
-use mathlib.Core.Path.{_≡_, refl}
+use mathlib.Core.Path.{_≡_, refl, sym, _∙_}
 use native.Mathlib.Numerals.{sub-one}
 use native.Mathlib.Omega.{arith}
-use lib.ListN.{length}
+use lib.ListN.{length, getD}
 use borrow.Author.Tests.{eq-eqb, ne-eqb}
 use Rattle.table.specs.Numbers.{lengthByte, stringByte, contextByte, signsByte, entrySigns, leastShift, noContext, contextSize}
 use Rattle.table.specs.Search.{member}
@@ -16,11 +16,12 @@ use Rattle.table.specs.Promises.{partWithin}
 use Rattle.table.specs.Refusals.{Between, ContextExists, RightEntry}
 use Rattle.table.specs.Table.{tableIn, entryAt}
 use Rattle.table.specs.declared.Sections.{Sections}
-use Rattle.table.proofs.Reading.{part-long, part-within, entry-at, string-inside, signs-inside, context-within}
+use Rattle.table.proofs.Reading.{part-long, part-within, part-at, entry-at, string-inside, signs-inside, context-within}
 use Rattle.translation.specs.Decide.{States, decided}
 use Rattle.translation.specs.Choose.{begins, classAfter, contextHolds, admissible, noEntry, entry}
 use Rattle.translation.specs.Opened.{Opened}
 use Rattle.translation.specs.declared.Setting.{Setting}
+use Rattle.translation.proofs.Rests.{begins-differs}
 
 module _ (image : List ℕ) (s : Sections) (opened : Opened image s) (k : ℕ) (there : k < s .contractions .records) where
   abbrev byte : ℕ → ℕ
@@ -95,3 +96,14 @@ module _ (image : List ℕ) (s : Sections) (opened : Opened image s) (k : ℕ) (
         && decided (tableIn image s .decisions) states (entryAt image s k .class))
     unfolding admissible
     begun e = rw (entry-at image s k noEntry there, e)
+
+    -- an entry whose first character is another than the rest's is passed over
+    pub first-differs : 0 < length rest → byte stringByte ≢ getD rest 0 0
+        → admissible (tableIn image s) setting states rest (entry (tableIn image s) k) ≡ false
+    unfolding entryAt
+    first-differs some n =
+        let long = string-long in
+        let least = right .length-right .low in
+        let inside = string-inside image s (opened .laid) (opened .right) k there in
+        let first-is = part-at image (s .contractions) k stringByte (byte lengthByte) inside 0 0 (omega arith) in
+        not-begun (begins-differs (entryAt image s k .string) rest 0 (omega arith) some (λ e. n (sym first-is ∙ e)))

@@ -3,6 +3,7 @@ pub mod Loops
 pub mod Records
 pub mod Entries
 pub mod Moving
+pub mod Offsets
 pub mod Rests
 pub mod Writing
 pub mod Thinned

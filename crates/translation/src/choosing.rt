@@ -2,7 +2,6 @@
 // before it. Entries are read where they lie, and of each its first character before anything else.
 
 ghost use mathlib.Core.Path.{_≡_};
-ghost use mathlib.Core.Bool.{_&&_};
 ghost use Prim.Native.Nat.{_+_, _≤_, _<_};
 ghost use lib.ListN.{length};
 ghost use Rattle.table.specs.Numbers.{entrySize, lengthByte, stringByte, leastLength, mostLength};
@@ -10,8 +9,7 @@ ghost use Rattle.table.specs.Search.{member};
 ghost use Rattle.table.specs.Sections.{offset, recordByte, recordPart};
 ghost use Rattle.table.specs.Table.{tableIn, entryAt};
 ghost use Rattle.table.specs.Refusals.{Between};
-ghost use Rattle.translation.specs.Decide.{decided};
-ghost use Rattle.translation.specs.Choose.{begins, classAfter, contextHolds, choice};
+ghost use Rattle.translation.specs.Choose.{begins, classAfter, contextHolds, admissible, entry, choice};
 ghost use Rattle.translation.specs.Opened.{Opened};
 ghost use Rattle.translation.specs.States.{statesIn};
 ghost use Rattle.translation.specs.Found.{found};
@@ -44,13 +42,9 @@ fn starts(string: &[u8], rest: &[u8]) -> bool
 fn begins(image: &[u8], entries: Section, k: u16, rest: &[u8]) -> bool
     requires { ⌜ offset entries k + entrySize ≤ length (now image) ⌝ }
     requires { ⌜ Between leastLength mostLength (recordByte (now image) entries k lengthByte) ⌝ }
-    requires { ⌜ 0 < length (now rest) ⌝ }
     ensures { λ r. ⌜ r ≡ begins (recordPart (now (image .entry)) entries k stringByte (recordByte (now (image .entry)) entries k lengthByte))
         (now (rest .entry)) ⌝ }
 {
-    if table::record_byte(image, entries, k, 1) != rest[0] {
-        return false;
-    }
     let n = table::record_byte(image, entries, k, 0) as u16;
     starts(table::record_part(image, entries, k, 1, n), rest)
 }
@@ -99,21 +93,24 @@ fn context_holds(image: &[u8], s: Sections, setting: Setting, k: u16, rest: &[u8
     )
 }
 
-// Whether an entry whose string begins the rest is admissible: its right context holds, and the decision table accepts its class.
-fn allowed(image: &[u8], s: Sections, setting: Setting, states: States, k: u16, rest: &[u8]) -> bool
+// Whether entry `k` is admissible: its whole string begins the rest, its right context holds, and the decision table accepts its class.
+fn admits(image: &[u8], s: Sections, setting: Setting, states: States, k: u16, rest: &[u8]) -> bool
     requires { ⌜ Opened (now image) s ⌝ }
     requires { ⌜ k < s .contractions .records ⌝ }
-    ensures { λ r. ⌜ r ≡ (contextHolds (tableIn (now (image .entry)) s) setting (now (rest .entry)) (entryAt (now (image .entry)) s k)
-        && decided (tableIn (now (image .entry)) s .decisions) (statesIn s states) (entryAt (now (image .entry)) s k .class)) ⌝ }
+    ensures { λ r. ⌜ r ≡ admissible (tableIn (now (image .entry)) s) setting (statesIn s states) (now (rest .entry))
+        (entry (tableIn (now (image .entry)) s) k) ⌝ }
 {
+    let entries = s.contractions;
+    if !begins(image, entries, k, rest) {
+        return false;
+    }
     if !context_holds(image, s, setting, k, rest) {
         return false;
     }
-    let entries = s.contractions;
     decide(image, s, states, table::record_byte(image, entries, k, 12))
 }
 
-// The first admissible entry in table order.
+// The first admissible entry in table order. Of each entry its first character is looked at before anything else: `at` is where it lies.
 pub(crate) fn search(
     image: &[u8],
     s: Sections,
@@ -127,13 +124,17 @@ pub(crate) fn search(
 {
     let entries = s.contractions;
     let n = entries.records;
+    let size = entries.size as usize;
+    let first = rest[0];
+    let mut at = entries.start as usize + 1;
     let mut k: u16 = 0;
     while k < n {
-        if begins(image, entries, k, rest) {
-            if allowed(image, s, setting, states, k, rest) {
+        if image[at] == first {
+            if admits(image, s, setting, states, k, rest) {
                 return Found::At(k);
             }
         }
+        at += size;
         k += 1;
     }
     Found::Nothing
