@@ -6,22 +6,26 @@ ghost use lib.ListN.{length};
 ghost use Rattle.table.specs.Table.{tableIn};
 ghost use Rattle.translation.specs.Numbers.{mostText};
 ghost use Rattle.translation.specs.Letters.{letterOf, letterFor, classOf, isUnknown, firstUnknown};
+ghost use Rattle.translation.specs.Opened.{Opened};
 ghost use Rattle.translation.specs.Found.{found};
 use crate::Found;
 use crate::collapsing;
 use table::Sections;
 
-// Which record of the alphabet has the symbol.
+// Which record of the alphabet has the symbol: `at` is where each record's symbol lies.
 fn letter_of(image: &[u8], s: Sections, c: u8) -> Found
+    requires { ⌜ Opened (now image) s ⌝ }
     ensures { λ r. ⌜ found r ≡ letterOf (tableIn (now (image .entry)) s .letters) c ⌝ }
 {
     let alphabet = s.alphabet;
     let n = alphabet.records;
+    let mut at = alphabet.start as usize;
     let mut k: u16 = 0;
     while k < n {
-        if table::record_byte(image, alphabet, k, 0) == c {
+        if image[at] == c {
             return Found::At(k);
         }
+        at += alphabet.size as usize;
         k += 1;
     }
     Found::Nothing
@@ -29,6 +33,7 @@ fn letter_of(image: &[u8], s: Sections, c: u8) -> Found
 
 // The class of a symbol, 0 where it has no record.
 pub(crate) fn class_of(image: &[u8], s: Sections, c: u8) -> u8
+    requires { ⌜ Opened (now image) s ⌝ }
     ensures { λ r. ⌜ r ≡ classOf (tableIn (now (image .entry)) s .letters) c ⌝ }
 {
     let alphabet = s.alphabet;
@@ -40,6 +45,7 @@ pub(crate) fn class_of(image: &[u8], s: Sections, c: u8) -> u8
 
 // The sign of a symbol, 99 where it has no record.
 pub(crate) fn sign_of(image: &[u8], s: Sections, c: u8) -> u8
+    requires { ⌜ Opened (now image) s ⌝ }
     ensures { λ r. ⌜ r ≡ letterFor (tableIn (now (image .entry)) s .letters) c .sign ⌝ }
 {
     let alphabet = s.alphabet;
@@ -51,6 +57,7 @@ pub(crate) fn sign_of(image: &[u8], s: Sections, c: u8) -> u8
 
 // Whether a lent character is one that remains and has no record.
 fn is_unknown(image: &[u8], s: Sections, c: u8) -> bool
+    requires { ⌜ Opened (now image) s ⌝ }
     ensures { λ r. ⌜ r ≡ isUnknown (tableIn (now (image .entry)) s .letters) c ⌝ }
 {
     if c == 124 {
@@ -64,6 +71,7 @@ fn is_unknown(image: &[u8], s: Sections, c: u8) -> bool
 
 // The first character of the text as lent that has no record.
 pub(crate) fn first_unknown(image: &[u8], s: Sections, text: &[u8]) -> Found
+    requires { ⌜ Opened (now image) s ⌝ }
     requires { ⌜ length (now text) ≤ mostText ⌝ }
     ensures { λ r. ⌜ found r ≡ firstUnknown (tableIn (now (image .entry)) s .letters) (now (text .entry)) ⌝ }
 {

@@ -51,6 +51,7 @@ fn begins(image: &[u8], entries: Section, k: u16, rest: &[u8]) -> bool
 
 // The class of the character after the first `n` of the rest; past the end of text, of the symbol that follows it.
 fn class_after(image: &[u8], s: Sections, setting: Setting, rest: &[u8], n: usize) -> u8
+    requires { ⌜ Opened (now image) s ⌝ }
     ensures { λ r. ⌜ r ≡ classAfter (tableIn (now (image .entry)) s) setting (now (rest .entry)) n ⌝ }
 {
     if n < rest.len() {

@@ -86,6 +86,7 @@ fn by_entry(image: &[u8], s: Sections, k: u16, signs: &mut [u8], at: usize) -> P
 
 // The piece of a character alone: its class and its sign.
 fn by_letter(image: &[u8], s: Sections, c: u8, signs: &mut [u8], at: usize) -> Piece
+    requires { ⌜ Opened (now image) s ⌝ }
     requires { ⌜ at < length (now signs) ⌝ }
     ensures { λ r. ⌜ MadeByLetter (letterFor (tableIn (now (image .entry)) s .letters) c) (now (signs .entry)) at (now (signs .exit)) r ⌝ }
 {

@@ -1,43 +1,63 @@
--- `translation::alphabet::letter_of` meets its contract. The loop's invariant: no record before `k` has the symbol.
+-- `translation::alphabet::letter_of` meets its contract. The loop's invariant: no record before `k` has the symbol, and `at` is where record `k` lies.
 use borrow.Author.Needs.{needs}
-use Prim.Native.Nat.{ℕ, _≤_, _-_}
+use Prim.Native.Nat.{ℕ, _+_, _≤_, _<_, _-_}
 use mathlib.Core.Bool.{Bool}
 use mathlib.Core.List.{List}
-use mathlib.Core.Path.{sym, _∙_}
+use mathlib.Core.Path.{_≡_, sym, _∙_, ap}
 use native.Mathlib.Omega.{arith}
 use lib.Dec.{eqb}
+use lib.ListN.{getD}
 use borrow.Author.Tests.{eq-eqb, ne-eqb}
-use Rattle.table.specs.Sections.{recordByte}
+use Rattle.table.specs.Numbers.{symbolByte}
+use Rattle.table.specs.Sections.{byteAt, offset, recordByte}
 use Rattle.table.specs.declared.Section.{Section}
 use Rattle.translation.proofs.Loops.{NoneBelow, none-yet, none-more, found-first, found-none}
+use Rattle.translation.proofs.Offsets.{walk-starts, walk-goes-on, walk-fits}
 use Rattle.translation.proofs.Records.{letter-of-read}
 use Rattle.translation.proofs.alphabet.letter_of.Statement.{statement}
 use Rattle.translation.proofs.alphabet.letter_of.Tie as tie
 
 abbrev has : List ℕ → Section → ℕ → ℕ → Bool
-has image alphabet c k = eqb (recordByte image alphabet k 0) c
+has image alphabet c k = eqb (recordByte image alphabet k symbolByte) c
 
 abbrev Inv-loop : tie.InvT-loop
-Inv-loop image c alphabet n k₀ k = (k ≤ n) × NoneBelow (has image alphabet c) k
+Inv-loop image c alphabet n at₀ k₀ at k = (k ≤ n) × (at ≡ offset alphabet k + symbolByte) × NoneBelow (has image alphabet c) k
 
 abbrev μ-loop : tie.MeasureT-loop
-μ-loop image c alphabet n k₀ k = n - k
+μ-loop image c alphabet n at₀ k₀ at k = n - k
+
+cast-at : tie.Need-cast-at Inv-loop μ-loop
+cast-at c = search needs
 
 loop-holds : tie.Need-loop-holds Inv-loop μ-loop
-loop-holds c = (omega arith, none-yet _)
+loop-holds c = (omega arith, omega (arith, walk-starts (c .before .before .args .s .alphabet) symbolByte), none-yet _)
 
-record-byte-requires : tie.Need-record-byte-requires Inv-loop μ-loop
-record-byte-requires c κs = search needs
+shared-slice-read-if1 : tie.Need-shared-slice-read-if1 Inv-loop μ-loop
+shared-slice-read-if1 c =
+    let l = c .before .before .loop in
+    let lies = c .before .before .before .before .before .pre .laid .alphabet-laid .lies (l .k) (search needs) in
+    let at-is = l .inv .1 in
+    omega arith
 
 returns : tie.Need-returns Inv-loop μ-loop
+unfolding recordByte byteAt
 returns c =
     let a = c .before .before .before .before .before .before .args in
-    let k = c .before .before .before .loop .k in
-    let test = has (a .image .now) (a .s .alphabet) (a .c) in
+    let l = c .before .before .before .loop in
     sym
     (letter-of-read (a .image .now) (a .s) (a .c)
-    ∙ found-first test (a .s .alphabet .records) k (c .before .before .before .loop .inv .1) (search needs)
-    (eq-eqb _ _ (sym (c .before .record-byte .ensures .is) ∙ c .if1 .taken)))
+    ∙ found-first (has (a .image .now) (a .s .alphabet) (a .c)) (a .s .alphabet .records) (l .k) (l .inv .2) (search needs)
+    (eq-eqb _ _ (ap (λ (x : ℕ). getD (a .image .now) x 0) (sym (l .inv .1)) ∙ c .if1 .taken)))
+
+cast-at-2 : tie.Need-cast-at-2 Inv-loop μ-loop
+cast-at-2 c = search needs
+
+add-at : tie.Need-add-at Inv-loop μ-loop
+add-at c =
+    let a = c .before .before .before .before .before .before .before .args in
+    let l = c .before .before .before .before .loop in
+    let fits = walk-fits (a .s .alphabet) symbolByte (l .k) (l .at) (l .inv .1) (search needs) (search needs) (search needs) (omega arith) in
+    record { fits = omega arith }
 
 add-k : tie.Need-add-k Inv-loop μ-loop
 add-k c = search needs
@@ -46,14 +66,17 @@ loop-less : tie.Need-loop-less Inv-loop μ-loop
 loop-less c = omega arith
 
 loop-again : tie.Need-loop-again Inv-loop μ-loop
+unfolding recordByte byteAt
 loop-again c =
-    let other = ne-eqb _ _ (λ e. c .if1 .left (c .before .record-byte .ensures .is ∙ e)) in
-    (omega arith, none-more _ _ (c .before .before .before .loop .inv .1) other)
+    let a = c .before .before .before .before .before .before .before .args in
+    let l = c .before .before .before .before .loop in
+    let other = ne-eqb _ _ (λ e. c .before .if1 .left (ap (λ (x : ℕ). getD (a .image .now) x 0) (l .inv .1) ∙ e)) in
+    (omega arith, walk-goes-on (a .s .alphabet) symbolByte (l .k) (l .at) (l .inv .1), none-more _ _ (l .inv .2) other)
 
 returns-2 : tie.Need-returns-2 Inv-loop μ-loop
 returns-2 c =
     let a = c .before .before .before .before .args in
-    sym (letter-of-read (a .image .now) (a .s) (a .c) ∙ found-none _ _ _ (c .before .loop .inv .1) (search needs))
+    sym (letter-of-read (a .image .now) (a .s) (a .c) ∙ found-none _ _ _ (c .before .loop .inv .2) (search needs))
 
 pub letter-of-spec : {M : Type 1} → statement M
 letter-of-spec =
@@ -61,9 +84,12 @@ letter-of-spec =
     (tie.spec
     Inv-loop
     μ-loop
+    cast-at
     loop-holds
-    record-byte-requires
+    shared-slice-read-if1
     returns
+    cast-at-2
+    add-at
     add-k
     loop-less
     loop-again

@@ -27,7 +27,7 @@ shared-slice-read-by-letter : tie.Need-shared-slice-read-by-letter
 shared-slice-read-by-letter c = search needs
 
 by-letter-requires : tie.Need-by-letter-requires
-by-letter-requires c κs = search needs
+by-letter-requires c κs = (c .before .before .before .before .before .before .before .before .pre .0, search needs)
 
 same-length : tie.Need-same-length
 same-length c = search needs
