@@ -1,0 +1,576 @@
+/* Measures the proved call beside the same algorithm in C. Every input goes to all calls, in rounds in which they take turns, so that a
+   disturbance meets each of them; of each call and input the best round counts. Answers and output bytes are compared on every input,
+   and a difference ends the run.
+
+   Where in memory the linker puts a short loop can change its time by a third. So the driver is linked several times, each time with
+   the code moved on by some bytes; of each call the best of these placements counts, which the file TIMES hands from one to the next.
+
+   usage: driver TIMES IMAGE TEXT DOCUMENT...
+   It reads the table IMAGE, makes an English text of the documents, writes it to TEXT, and prints what it and the placements before it
+   measured. */
+#define _POSIX_C_SOURCE 200809L
+#include "press.h"
+#include <stdarg.h>
+#include <stdio.h>
+#include <stdlib.h>
+#include <string.h>
+#include <time.h>
+
+extern emboss_call twin_cc_o2, twin_cc_o3, twin_kit;
+
+static const struct {
+    const char *name;
+    emboss_call *call;
+} calls[] = {
+    {"proved", tlopahuexi_emboss},
+    {"C, cc -O2", twin_cc_o2},
+    {"C, cc -O3", twin_cc_o3},
+#ifdef HAVE_KIT
+    {"C, the kit's clang -O3", twin_kit},
+#endif
+};
+
+enum {
+    CALLS = sizeof calls / sizeof calls[0],
+    PROVED = 0,
+    MOST_MEASURED = 32,
+    MOST_IMAGE = 23505,
+    MOST_TEXT = 16384,
+    ROOM = 160000,
+    TEXT_BYTES = 262144,
+    WIDTH = 38,
+    PAGE = 25,
+    ROUNDS = 40,
+    ENTRY = 18,
+    MOST_ENTRIES = 1199,
+};
+
+static void fail(const char *words, ...)
+{
+    va_list list;
+
+    va_start(list, words);
+    fprintf(stderr, "bench: ");
+    vfprintf(stderr, words, list);
+    fprintf(stderr, "\n");
+    va_end(list);
+    exit(1);
+}
+
+static double now(void)
+{
+    struct timespec t;
+
+    clock_gettime(CLOCK_MONOTONIC, &t);
+    return t.tv_sec * 1e9 + t.tv_nsec;
+}
+
+/* ---- One input, and its answers compared */
+
+struct input {
+    const uint8_t *image;
+    uint64_t image_length;
+    const uint8_t *text;
+    uint64_t text_length;
+    uint64_t width, page, room;
+};
+
+static uint8_t out[CALLS][ROOM];
+static uint64_t answer[CALLS][VALUES];
+static long compared;
+
+/* Runs one call and answers its nanoseconds. */
+static double run(int c, const struct input *in)
+{
+    double began = now();
+
+    calls[c].call(in->image, in->image_length, in->text, in->text_length, in->width, in->page, out[c], in->room, answer[c]);
+    return now() - began;
+}
+
+/* Compares the answers, and the outputs' first bytes. */
+static void compare(const struct input *in, uint64_t bytes)
+{
+    int c, i;
+
+    for (c = 1; c < CALLS; c++) {
+        for (i = 0; i < VALUES; i++)
+            if (answer[c][i] != answer[PROVED][i])
+                fail("a difference: value %d of the answer is %llu, and of '%s' %llu (text of %llu bytes, W %llu, P %llu, room %llu)", i,
+                     (unsigned long long)answer[PROVED][i], calls[c].name, (unsigned long long)answer[c][i],
+                     (unsigned long long)in->text_length, (unsigned long long)in->width, (unsigned long long)in->page,
+                     (unsigned long long)in->room);
+        if (memcmp(out[c], out[PROVED], bytes) != 0)
+            fail("a difference: the output of '%s' (text of %llu bytes, W %llu, P %llu, room %llu)", calls[c].name,
+                 (unsigned long long)in->text_length, (unsigned long long)in->width, (unsigned long long)in->page,
+                 (unsigned long long)in->room);
+    }
+    compared++;
+}
+
+/* Fills the outputs with bytes that tell their place, so that a byte which must not change is seen to be as it was. */
+static void lend(void)
+{
+    int c, i;
+
+    for (c = 0; c < CALLS; c++)
+        for (i = 0; i < ROOM; i++)
+            out[c][i] = 7 * i + 13;
+}
+
+static void check(const struct input *in)
+{
+    int c;
+
+    for (c = 0; c < CALLS; c++)
+        run(c, in);
+    compare(in, ROOM);
+}
+
+/* ---- Measuring */
+
+/* Nanoseconds of all inputs together, of each its best round: in the best placement so far, and in the worst. */
+struct times {
+    double best[CALLS], worst[CALLS];
+};
+
+static struct {
+    int placements;
+    struct times of[MOST_MEASURED];
+} times;
+
+static int measured;
+
+static void read_times(const char *name)
+{
+    FILE *f = fopen(name, "rb");
+
+    if (!f)
+        return;
+    if (fread(&times, sizeof times, 1, f) != 1)
+        fail("%s is no file of times", name);
+    fclose(f);
+}
+
+static void write_times(const char *name)
+{
+    FILE *f = fopen(name, "wb");
+
+    times.placements++;
+    if (!f || fwrite(&times, sizeof times, 1, f) != 1 || fclose(f) != 0)
+        fail("%s can't be written", name);
+}
+
+static struct times *measure(const struct input *in, int inputs, int rounds)
+{
+    struct times *t = &times.of[measured++];
+    double *best = malloc(sizeof *best * inputs * CALLS), sum, took;
+    int i, c, r, turn;
+
+    for (i = 0; i < inputs * CALLS; i++)
+        best[i] = 1e300;
+    for (r = 0; r < rounds; r++)
+        for (i = 0; i < inputs; i++) {
+            for (turn = 0; turn < CALLS; turn++) {
+                c = (turn + r + i) % CALLS;
+                took = run(c, &in[i]);
+                if (took < best[i * CALLS + c])
+                    best[i * CALLS + c] = took;
+            }
+            compare(&in[i], answer[PROVED][WRITTEN]);
+        }
+    for (i = 0; i < inputs; i++) {
+        lend();
+        check(&in[i]);
+    }
+    for (c = 0; c < CALLS; c++) {
+        for (sum = 0, i = 0; i < inputs; i++)
+            sum += best[i * CALLS + c];
+        if (times.placements == 0 || sum < t->best[c])
+            t->best[c] = sum;
+        if (times.placements == 0 || sum > t->worst[c])
+            t->worst[c] = sum;
+    }
+    free(best);
+    return t;
+}
+
+/* The best time of a call in C. */
+static double fastest(const struct times *t)
+{
+    double least = t->best[1];
+    int c;
+
+    for (c = 2; c < CALLS; c++)
+        if (t->best[c] < least)
+            least = t->best[c];
+    return least;
+}
+
+/* ---- The table: where its sections lie, by the trailer */
+
+static uint8_t image[MOST_IMAGE + 1];
+static uint64_t image_length;
+
+static uint64_t distance(const uint8_t *bytes, uint64_t length, int k)
+{
+    const uint8_t *p = bytes + length - 14 + 2 * k;
+
+    return p[0] + 256u * p[1];
+}
+
+static uint64_t start(const uint8_t *bytes, uint64_t length, int k)
+{
+    return length - 14 - distance(bytes, length, k);
+}
+
+static int in_alphabet(int c)
+{
+    uint64_t i;
+
+    for (i = 0; i < start(image, image_length, 1); i += 3)
+        if (image[i] == c)
+            return 1;
+    return 0;
+}
+
+/* ---- The text: the documents in capitals, an empty line as the sign of a paragraph, and a blank for what the table doesn't have */
+
+static uint8_t text[TEXT_BYTES];
+static uint64_t text_length;
+
+static uint64_t read_file(const char *name, uint8_t *bytes, uint64_t most)
+{
+    FILE *f = fopen(name, "rb");
+    uint64_t n;
+
+    if (!f)
+        fail("%s can't be read", name);
+    n = fread(bytes, 1, most, f);
+    fclose(f);
+    return n;
+}
+
+static void put(int c)
+{
+    if (text_length < TEXT_BYTES)
+        text[text_length++] = c;
+}
+
+static void add_document(const uint8_t *bytes, uint64_t n)
+{
+    uint64_t i;
+    int c;
+
+    for (i = 0; i < n; i++) {
+        c = bytes[i];
+        if (c >= 'a' && c <= 'z')
+            c -= 32;
+        if (c == '\n' && i > 0 && bytes[i - 1] == '\n') {
+            put('$');
+            put('P');
+        } else if (c == '\n' || c == '|' || (c != '$' && in_alphabet(c))) {
+            put(c);
+        } else {
+            put(' ');
+        }
+    }
+}
+
+static void make_text(char **names, int documents)
+{
+    static uint8_t bytes[1 << 20];
+    uint64_t had;
+    int i;
+
+    do {
+        had = text_length;
+        for (i = 0; i < documents; i++)
+            add_document(bytes, read_file(names[i], bytes, sizeof bytes));
+    } while (text_length < TEXT_BYTES && text_length > had);
+    if (text_length < TEXT_BYTES)
+        fail("the documents are empty");
+}
+
+/* Where a section of at most `most` bytes that begins at `at` ends: after a blank or a line feed, if it has one. */
+static uint64_t section_end(uint64_t at, uint64_t most)
+{
+    uint64_t end = at + most;
+
+    if (end >= text_length)
+        return text_length;
+    while (end > at && text[end - 1] != ' ' && text[end - 1] != '\n')
+        end--;
+    return end > at ? end : at + most;
+}
+
+static struct input input(const uint8_t *table, uint64_t length, const uint8_t *lent, uint64_t n)
+{
+    struct input in = {table, length, lent, n, WIDTH, PAGE, ROOM};
+    return in;
+}
+
+/* ---- Tables of any size: entries whose strings stand in the text, in the order backwards by the alphabet, which is grouped */
+
+static uint32_t seed = 1;
+
+static uint32_t random_below(uint32_t n)
+{
+    seed = seed * 1664525 + 1013904223;
+    return (seed >> 8) % n;
+}
+
+static uint8_t drawn[MOST_ENTRIES][ENTRY];
+
+static int is_new(int n, const uint8_t *entry)
+{
+    int k;
+
+    for (k = 0; k < n; k++)
+        if (memcmp(drawn[k], entry, 11) == 0)
+            return 0;
+    return 1;
+}
+
+/* Draws the entries: two to ten letters, a right context in one of four, classes 6 to 8, one to three signs. */
+static void draw_entries(void)
+{
+    uint8_t entry[ENTRY];
+    const uint8_t *from;
+    int n = 0, length, i;
+
+    while (n < MOST_ENTRIES) {
+        length = 2 + random_below(9);
+        from = text + random_below(text_length - 10);
+        memset(entry, 0, 14);
+        memset(entry + 14, 99, 4);
+        entry[0] = length;
+        for (i = 0; i < length && from[i] >= 'A' && from[i] <= 'Z'; i++)
+            entry[1 + i] = from[i];
+        if (i < length || !is_new(n, entry))
+            continue;
+        entry[11] = length < 10 && random_below(4) == 0 ? 1 + random_below(2) : 0;
+        entry[12] = 6 + random_below(3);
+        entry[13] = length;
+        for (i = random_below(3); i >= 0; i--)
+            entry[14 + i] = 1 + random_below(63);
+        memcpy(drawn[n++], entry, ENTRY);
+    }
+}
+
+static int backwards(const void *a, const void *b)
+{
+    return memcmp((const uint8_t *)b + 1, (const uint8_t *)a + 1, 10);
+}
+
+/* The image with the first n drawn entries in the place of its own. */
+static uint64_t make_table(int n, uint8_t *made)
+{
+    uint64_t before = start(image, image_length, 1), after = start(image, image_length, 2), bytes = ENTRY * (uint64_t)n, length, d;
+    int k;
+
+    memcpy(made, image, before);
+    memcpy(made + before, drawn, bytes);
+    qsort(made + before, n, ENTRY, backwards);
+    memcpy(made + before + bytes, image + after, image_length - after);
+    length = before + bytes + image_length - after;
+    for (k = 0; k < 2; k++) {
+        d = distance(image, image_length, k) - (after - before) + bytes;
+        made[length - 14 + 2 * k] = d % 256;
+        made[length - 14 + 2 * k + 1] = d / 256;
+    }
+    return length;
+}
+
+/* ---- The twin is a twin: each refusal, at every byte of the table and at the limits */
+
+static void compare_refusals(const struct input *sound)
+{
+    static const uint64_t widths[] = {0, 7, 8, 9, 60, 61, UINT64_MAX}, pages[] = {0, 1, 2, 3, 40, 41, UINT64_MAX};
+    static uint8_t damaged[MOST_IMAGE + 1], lent[MOST_TEXT + 1];
+    uint64_t entries = start(image, image_length, 1), needed, i, j;
+    struct input in = *sound;
+    uint8_t swapped[ENTRY];
+
+    lend();
+    in.text_length = 200;
+    in.image = damaged;
+    memcpy(damaged, image, image_length);
+    for (i = 0; i < image_length; i++) {
+        for (j = 1; j < 256; j = 3 * j + 1) {
+            damaged[i] = image[i] ^ j;
+            check(&in);
+        }
+        damaged[i] = image[i];
+        in.image_length = i;
+        check(&in);
+        in.image_length = image_length;
+    }
+    for (i = entries; i + 2 * ENTRY <= start(image, image_length, 2); i += ENTRY) {
+        memcpy(swapped, image + i, ENTRY);
+        memcpy(damaged + i, image + i + ENTRY, ENTRY);
+        memcpy(damaged + i + ENTRY, swapped, ENTRY);
+        check(&in);
+        memcpy(damaged + i, image + i, 2 * ENTRY);
+    }
+    in = *sound;
+    in.text_length = 2000;
+    for (i = 0; i < sizeof widths / sizeof widths[0]; i++)
+        for (j = 0; j < sizeof pages / sizeof pages[0]; j++) {
+            in.width = widths[i];
+            in.page = pages[j];
+            lend();
+            check(&in);
+        }
+    in = *sound;
+    memset(lent, 'A', sizeof lent);
+    in.text = lent;
+    for (i = MOST_TEXT - 1; i <= MOST_TEXT + 1; i++) {
+        in.text_length = i;
+        check(&in);
+    }
+    memcpy(lent, text, MOST_TEXT);
+    for (i = 0; i < 256; i++) {
+        lent[i * 8] = i;
+        in.text_length = i * 8 + 1;
+        check(&in);
+        lent[i * 8] = text[i * 8];
+    }
+    in = *sound;
+    check(&in);
+    needed = answer[PROVED][WRITTEN];
+    for (i = needed - 2; i <= needed + 1; i++) {
+        in.room = i;
+        lend();
+        check(&in);
+    }
+}
+
+/* ---- What is printed */
+
+static void whole_text(const struct input *sections, int count)
+{
+    struct times *t;
+    uint64_t bytes = 0, pieces = 0, lines = 0, pages = 0;
+    int c, i;
+
+    for (i = 0; i < count; i++) {
+        check(&sections[i]);
+        if (answer[PROVED][NUMBER] != 0)
+            fail("section %d of the text is refused with number %llu", i, (unsigned long long)answer[PROVED][NUMBER]);
+        bytes += sections[i].text_length;
+        pieces += answer[PROVED][PIECES];
+        lines += answer[PROVED][LINES];
+        pages += answer[PROVED][PAGES];
+    }
+    t = measure(sections, count, ROUNDS);
+    printf("The whole text: %llu characters in %d sections, %llu pieces, %llu lines, %llu pages (W %d, P %d)\n\n", (unsigned long long)bytes,
+           count, (unsigned long long)pieces, (unsigned long long)lines, (unsigned long long)pages, WIDTH, PAGE);
+    printf("  %-24s %10s %16s %14s %10s %14s\n", "call", "ns/char", "worst placement", "characters/s", "pages/s", "proved / this");
+    for (c = 0; c < CALLS; c++)
+        printf("  %-24s %10.1f %16.1f %14.0f %10.0f %14.2f\n", calls[c].name, t->best[c] / bytes, t->worst[c] / bytes,
+               bytes / t->best[c] * 1e9, pages / t->best[c] * 1e9, t->best[PROVED] / t->best[c]);
+    printf("\n");
+}
+
+static void growing_text(void)
+{
+    uint64_t n;
+
+    printf("As the text grows, by the English table; C is the fastest of them\n\n");
+    printf("  %10s %12s %14s %10s %8s\n", "characters", "proved, us", "proved ns/char", "C ns/char", "ratio");
+    for (n = 1024; n <= MOST_TEXT; n *= 2) {
+        struct input in = input(image, image_length, text, n);
+        struct times *t = measure(&in, 1, 5 * ROUNDS);
+
+        printf("  %10llu %12.1f %14.1f %10.1f %8.2f\n", (unsigned long long)n, t->best[PROVED] / 1e3, t->best[PROVED] / n, fastest(t) / n,
+               t->best[PROVED] / fastest(t));
+    }
+    printf("\n");
+}
+
+static void growing_table(void)
+{
+    static const int sizes[] = {10, 50, 200, 600, MOST_ENTRIES};
+    static uint8_t made[MOST_IMAGE + 1];
+    uint64_t n = section_end(0, MOST_TEXT), i;
+
+    printf("As the table grows, drawn tables and a text of %llu characters\n\n", (unsigned long long)n);
+    printf("  %10s %8s %14s %15s %10s %8s\n", "entries", "pieces", "proved ns/char", "proved ns/piece", "C ns/char", "ratio");
+    for (i = 0; i < sizeof sizes / sizeof sizes[0]; i++) {
+        uint64_t length = make_table(sizes[i], made);
+        struct input in = input(made, length, text, n);
+        struct times *t = measure(&in, 1, 3 * ROUNDS);
+
+        if (answer[PROVED][NUMBER] != 0)
+            fail("the drawn table of %d entries is refused with number %llu", sizes[i], (unsigned long long)answer[PROVED][NUMBER]);
+        printf("  %10d %8llu %14.1f %15.1f %10.1f %8.2f\n", sizes[i], (unsigned long long)answer[PROVED][PIECES], t->best[PROVED] / n,
+               t->best[PROVED] / answer[PROVED][PIECES], fastest(t) / n, t->best[PROVED] / fastest(t));
+    }
+    printf("\n");
+}
+
+/* W 7 is out of its limits, so that such a call judges the table and does nothing else. */
+static void share_of_check(const char *name, const uint8_t *table, uint64_t length)
+{
+    static const uint64_t lengths[] = {0, 0, 1024, MOST_TEXT};
+    struct times *t[4];
+    double check_alone;
+    int i;
+
+    for (i = 0; i < 4; i++) {
+        struct input in = input(table, length, text, lengths[i]);
+
+        if (i == 0)
+            in.width = 7;
+        t[i] = measure(&in, 1, 3 * ROUNDS);
+    }
+    check_alone = t[0]->best[PROVED];
+    printf("  %-10s %11.1f %10.1f %10.1f %10.1f %9.1f%% %9.1f%% %10.1f %8.2f\n", name, check_alone / 1e3, t[1]->best[PROVED] / 1e3,
+           t[2]->best[PROVED] / 1e3, t[3]->best[PROVED] / 1e3, 100 * check_alone / t[2]->best[PROVED], 100 * check_alone / t[3]->best[PROVED],
+           fastest(t[0]) / 1e3, check_alone / fastest(t[0]));
+}
+
+static void shares(void)
+{
+    static uint8_t made[MOST_IMAGE + 1];
+
+    printf("The share of the table's check: microseconds of the proved call, and the check alone in C\n\n");
+    printf("  %-10s %11s %10s %10s %10s %10s %10s %10s %8s\n", "table", "check alone", "no text", "1,024", "16,384", "of 1,024", "of 16,384",
+           "C's check", "ratio");
+    share_of_check("English", image, image_length);
+    share_of_check("1,199", made, make_table(MOST_ENTRIES, made));
+    printf("\n");
+}
+
+int main(int words, char **word)
+{
+    static struct input sections[TEXT_BYTES / 1024];
+    uint64_t at, end;
+    int count = 0;
+    FILE *f;
+
+    if (words < 5)
+        fail("usage: driver TIMES IMAGE TEXT DOCUMENT...");
+    read_times(word[1]);
+    image_length = read_file(word[2], image, sizeof image);
+    if (image_length < 14)
+        fail("%s is no table", word[2]);
+    make_text(word + 4, words - 4);
+    f = fopen(word[3], "wb");
+    if (!f || fwrite(text, 1, text_length, f) != text_length || fclose(f) != 0)
+        fail("%s can't be written", word[3]);
+    for (at = 0; at < text_length; at = end) {
+        end = section_end(at, MOST_TEXT);
+        sections[count++] = input(image, image_length, text + at, end - at);
+    }
+    draw_entries();
+    compare_refusals(&sections[0]);
+    whole_text(sections, count);
+    growing_text();
+    growing_table();
+    shares();
+    printf("Compared in each placement: %ld inputs, six values and every output byte, no difference\n", compared);
+    write_times(word[1]);
+    return 0;
+}

@@ -1,0 +1,23 @@
+/* The whole call, as the archive of crates/press defines it, and its twin in C. A slice crosses as an address that is never null and a
+   length. The bytes at out and answer are lent as nothing else in the same call. Lengths have 64 bits: both are for x86-64 alone. */
+#ifndef PRESS_H
+#define PRESS_H
+
+#include <stdint.h>
+
+/* What a call stores in answer, in this order. */
+enum { NUMBER, PLACE, WRITTEN, PIECES, LINES, PAGES, VALUES };
+
+typedef void emboss_call(const uint8_t *image, uint64_t image_length, const uint8_t *text, uint64_t text_length, uint64_t width,
+                         uint64_t page, uint8_t *out, uint64_t out_length, uint64_t answer[VALUES]);
+
+/* The proved call. */
+extern emboss_call tlopahuexi_emboss;
+
+/* The same algorithm in C; a driver may hold it several times, each compiled in another way and under another name. */
+#ifndef TWIN
+#define TWIN twin_emboss
+#endif
+extern emboss_call TWIN;
+
+#endif

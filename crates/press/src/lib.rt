@@ -1,0 +1,29 @@
+// The whole call for programs in other languages: `rt staticlib press` writes an archive that defines it under its plain name. A slice crosses as its
+// address, never null, and its length; bytes that are lent as `out` or `answer` are lent as nothing else in the same call.
+
+ghost use Rattle.press.specs.Promises.{Pressed};
+use layout::emboss;
+
+// Embosses a text, and stores the answer's six values: number, place, bytes written, pieces, lines, pages. A refused call changes no byte of `out`, and a
+// done one none beyond the bytes written.
+#[no_mangle]
+pub extern "C" fn tlopahuexi_emboss(
+    image: &[u8],
+    text: &[u8],
+    width: usize,
+    page: usize,
+    out: &mut [u8],
+    answer: &mut [u64; 6],
+)
+    ensures { λ _. ⌜ Pressed (now (image .entry)) (now (text .entry)) width page (now (out .entry)) (now (out .exit)) (now (answer .exit)) ⌝ }
+{
+    let a = emboss(image, text, width, page, out);
+    *answer = [
+        a.number() as u64,
+        a.place() as u64,
+        a.written() as u64,
+        a.pieces() as u64,
+        a.lines() as u64,
+        a.pages() as u64,
+    ];
+}
