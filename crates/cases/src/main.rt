@@ -1,29 +1,13 @@
 // The paper's run cases: what the whole call answers at its limits, for each refusal 1 to 8 with its place, and where two refusals hold at once.
 // Each case prints its answer in the form of `brailleout`. Some go on with the cells and pages; the others say whether the bytes lent are as they were.
-ghost use Prim.Native.Nat.{_≤_};
-ghost use lib.ListN.{length};
-ghost use Rattle.io.specs.Counts.{Counts};
 use libc::STDOUT_FILENO;
-
-// The table of the paper's examples.
-fn read_table(image: &mut [u8; 32768]) -> usize
-    ensures { λ r. ⌜ Counts r (now (image .exit)) ⌝ }
-{
-    let fd = os::open_read(&[b'c', b'a', b's', b'e', b's', b'.', b't', b'a', b'b']);
-    if fd < 0 {
-        return 0;
-    }
-    let n = io::read_full(fd, image);
-    libc::close(fd);
-    n
-}
 
 // The answer, the cells and the pages.
 fn show(image: &[u8], text: &[u8], width: usize, page: usize) {
     let mut out = [170u8; 65536];
     let answer = layout::emboss(image, text, width, page, &mut out);
-    printing::print_answer(answer);
-    printing::print_pages(&out[..answer.written()]);
+    console::print_answer(answer);
+    console::print_pages(&out[..answer.written()]);
 }
 
 // Whether every byte is 170.
@@ -41,7 +25,7 @@ fn as_lent(bytes: &[u8]) -> bool {
 // The answer, and whether the output is as lent.
 fn tell(image: &[u8], text: &[u8], width: usize, page: usize, out: &mut [u8]) {
     let answer = layout::emboss(image, text, width, page, out);
-    printing::print_answer(answer);
+    console::print_answer(answer);
     if as_lent(out) {
         io::write_all(STDOUT_FILENO, &[b'k', b'e', b'p', b't', b'\n']);
     } else {
@@ -114,7 +98,7 @@ fn all(image: &[u8]) {
 // A wrong byte: of a letter's class (2), of the blank's symbol (3), of an entry's string, which parts two that begin alike (4).
 fn main() {
     let mut image = [0u8; 32768];
-    let held = read_table(&mut image);
+    let held = console::read_table(&mut image);
     all(&image[..held]);
     image[31] = 6;
     answered(&image[..held], &[65], 8, 2);

@@ -1,44 +1,21 @@
 -- The bytes of the moves, case by case, as Moves.antt has the places; and the count of bytes that a place keeps is the length of what was written.
 use Prim.Native.Nat.{ℕ, _+_, _≤_, _<_}
-use mathlib.Core.Bool.{Bool, true, false, cond}
+use mathlib.Core.Bool.{Bool, true, false}
 use mathlib.Core.List.{List, [], _∷_, _++_, append-nil}
 use mathlib.Core.Logic.{_⊎_, inl, inr}
 use mathlib.Core.Option.{Option, none, some}
 use mathlib.Core.Path.{_≡_, refl, sym, _∙_, ap}
 use native.Mathlib.Decide.{decLe}
 use native.Mathlib.Omega.{arith}
-use lib.Dec.{leb, ltb, eqb}
+use lib.Dec.{ltb, eqb}
 use lib.ListN.{length, replicate, length-append, length-replicate}
-use borrow.Author.Tests.{lt-ltb, le-ltb, le-leb, lt-leb, eq-eqb, ne-eqb}
+use borrow.Author.Tests.{le-leb, lt-leb, eq-eqb, ne-eqb}
 use Rattle.table.specs.Numbers.{blankCell}
 use Rattle.table.specs.Search.{isThere}
-use Rattle.layout.specs.Numbers.{gapBlanks, paragraphBlanks, lineMark, pageMark}
+use Rattle.layout.specs.Numbers.{gapBlanks, lineMark, pageMark}
 use Rattle.layout.specs.Words.{Item, word, lineEnd, emptyLine, paragraph, pageEnd, formatOf}
-use Rattle.layout.specs.Place.{
-  holdsCell,
-  hasLine,
-  fillsPage,
-  afterLine,
-  lineBytes,
-  afterLineEnd,
-  lineEndBytes,
-  afterEmptyLine,
-  emptyLineBytes,
-  afterParagraph,
-  paragraphBytes,
-  afterPage,
-  afterPageEnd,
-  pageEndBytes,
-  openingBlanks,
-  joins,
-  afterCells,
-  cellsAfter,
-  afterWord,
-  wordBytes,
-  afterItem,
-  itemBytes,
-}
-use Rattle.layout.specs.Gather.{afterFlush, flushBytes, afterFormat, formatBytes, stepped, waiting, stepBytes}
+use Rattle.layout.specs.Place.{fillsPage, afterLine, lineBytes, afterLineEnd, lineEndBytes, afterEmptyLine, emptyLineBytes, afterParagraph, paragraphBytes, afterPage, afterPageEnd, pageEndBytes, openingBlanks, joins, afterCells, cellsAfter, afterWord, wordBytes, afterItem, itemBytes}
+use Rattle.layout.specs.Gather.{afterFlush, flushBytes, afterFormat, formatBytes, stepped, stepBytes}
 use Rattle.layout.specs.declared.Place.{Place}
 use Rattle.layout.proofs.Moves.{
   holds-cell,

@@ -2,7 +2,7 @@
 -- have; a cell is at most 63, so that it is no mark.
 use Prim.Native.Nat.{ℕ, _+_, _<_}
 use mathlib.Core.Bool.{Bool, true, false}
-use mathlib.Core.List.{List, [], _∷_, _++_, append-nil}
+use mathlib.Core.List.{List, [], _∷_, _++_}
 use mathlib.Core.Path.{_≡_, refl}
 use native.Mathlib.Omega.{arith}
 use lib.Dec.{eqb}
@@ -10,16 +10,16 @@ use lib.ListN.{length, length-append, length-replicate}
 use borrow.Author.Tests.{ne-eqb}
 use Rattle.table.specs.Numbers.{blankCell}
 use Rattle.table.specs.Cells.{mostCell}
+use Rattle.table.specs.Lists.{All, empty, _and_}
+use Rattle.table.proofs.Lists.{all-append, all-replicate, all-weaker}
 use Rattle.layout.specs.Numbers.{lineMark, pageMark}
 use Rattle.layout.specs.Words.{Item}
-use Rattle.layout.specs.Place.{start, cellsAfter, afterItem, itemBytes, afterItems, itemsBytes, volumeEnd, volume}
+use Rattle.layout.specs.Place.{start, afterPage, afterCells, cellsAfter, volumeEnd, volume}
 use Rattle.layout.specs.Pages.{count}
-use Rattle.layout.specs.Lists.{All, empty, _and_}
-use Rattle.layout.specs.Fitting.{WordFits, ItemFits, Fitting}
+use Rattle.layout.specs.Fitting.{WordFits, Fitting}
 use Rattle.layout.specs.Right.{IsCell}
 use Rattle.layout.specs.declared.Place.{Place}
-use Rattle.layout.proofs.Lists.{all-append, all-replicate, all-weaker}
-use Rattle.layout.proofs.Kept.{Kept, items-keep, volume-keeps}
+use Rattle.layout.proofs.Kept.{Kept, volume-keeps}
 
 -- ---- Cells: the blanks and the word that a move writes
 
@@ -56,7 +56,7 @@ pub record Counted (p : Place) (bytes : List ℕ) (q : Place) : Type 0 where
 
 module _ (W P : ℕ) (p : Place) where
   counted : Kept W P (λ bytes words spots q. Counted p bytes q)
-  unfolding count
+  unfolding count afterCells afterPage
   counted =
       record {
         cells = λ bytes words spots q blanks w fits h r.
@@ -80,15 +80,6 @@ module _ (W P : ℕ) (p : Place) where
             };
         opens = λ bytes words spots q r. record { written = r .written; lines = r .lines; pages = r .pages };
       }
-
-  pub items-counted : (items : List Item) → Fitting W items → p .line < P → Counted p (itemsBytes W P p items) (afterItems W P p items)
-  unfolding count
-  items-counted items fits room =
-      items-keep W P _ counted p items fits room (record { written = omega arith; lines = omega arith; pages = omega arith })
-
-  pub item-counted : (item : Item) → ItemFits W item → p .line < P → Counted p (itemBytes W P p item) (afterItem W P p item)
-  unfolding itemsBytes afterItems
-  item-counted item fits room = rw append-nil at (items-counted (item ∷ []) (fits and empty) room)
 
 -- ---- The whole volume
 

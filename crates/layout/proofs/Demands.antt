@@ -1,6 +1,6 @@
 -- Demands 2 and 3 of a text and an accepted table: the laws of the layers, put together. Everything is over the words and format signs that the pieces
 -- of the text yield, for every W and P within the limits and every symbol that follows.
-use Prim.Native.Nat.{ℕ, _≤_, _<_}
+use Prim.Native.Nat.{ℕ, _<_}
 use mathlib.Core.Bool.{Bool}
 use mathlib.Core.List.{List, map, flatten}
 use mathlib.Core.Path.{_≡_, subst}
@@ -9,8 +9,8 @@ use lib.ListN.{length}
 use Rattle.table.specs.Refusals.{Between}
 use Rattle.table.specs.Table.{tableOf}
 use Rattle.table.specs.Verdict.{verdictOf}
-use Rattle.table.specs.declared.Verdict.{Verdict}
 use Rattle.table.specs.declared.Verdict.the-variants.{Accepted}
+use Rattle.table.specs.Lists.{All}
 use Rattle.translation.specs.Collapse.{collapsed}
 use Rattle.translation.specs.Pieces.{characters, piecesOf, signsOf}
 use Rattle.translation.specs.declared.Setting.{Setting}
@@ -18,7 +18,7 @@ use Rattle.translation.proofs.Accepted.{accepted-sound}
 use Rattle.translation.proofs.Consumed.{consumed}
 use Rattle.translation.proofs.Signs.{signs-printed}
 use Rattle.layout.specs.Numbers.{leastWidth, mostWidth, leastPage, mostPage, lineMark, pageMark}
-use Rattle.layout.specs.Lists.{All, only}
+use Rattle.layout.specs.Lists.{only}
 use Rattle.layout.specs.Words.{Item, itemsOf}
 use Rattle.layout.specs.Place.{volume}
 use Rattle.layout.specs.Pages.{pagesOf, bytesOfPages, count}

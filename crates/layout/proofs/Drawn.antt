@@ -11,7 +11,7 @@ use lib.ListN.{length, getD, drop, replicate, length-append, length-drop, length
 use lib.Seq.{take-length, take-append-le, drop-append-le, drop-at, getD-at, getD-append-add}
 use Rattle.table.specs.Numbers.{blankCell}
 use Rattle.layout.specs.Words.{Item}
-use Rattle.layout.specs.Place.{start, cellsAfter, volume}
+use Rattle.layout.specs.Place.{start, afterPage, afterCells, cellsAfter, volume}
 use Rattle.layout.specs.Pages.{Line}
 use Rattle.layout.specs.Permitted.{Spot}
 use Rattle.layout.specs.Spots.{spotsFrom, withChoices}
@@ -208,7 +208,7 @@ record Placed (W P : ℕ) (bytes : List ℕ) (words : List (List ℕ)) (spots : 
   drawn : Drawn (sheetLines (reads unmarked bytes)) words spots
 
 placed-kept : (W P : ℕ) → Kept W P (Placed W P)
-unfolding reads read flatten
+unfolding reads read flatten afterPage afterCells
 placed-kept W P =
     record {
       cells = λ bytes words spots p blanks w fits h r.

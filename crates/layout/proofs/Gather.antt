@@ -2,22 +2,22 @@
 -- writes, and then what the rest does. A word is placed as soon as it has W cells, since its parts are cut off in fulls of W.
 use Prim.Native.Nat.{ℕ, zero, suc, _+_, _≤_, _<_}
 use mathlib.Core.Bool.{Bool, true, false, cond, _||_}
-use mathlib.Core.List.{List, [], _∷_, _++_, map, append-assoc, append-nil}
+use mathlib.Core.List.{List, [], _∷_, _++_, append-assoc, append-nil}
 use mathlib.Core.Option.{Option, none, some}
-use mathlib.Core.Path.{_≡_, refl, sym, _∙_, ap, subst}
+use mathlib.Core.Path.{_≡_, refl, sym, _∙_, ap}
 use native.Mathlib.Decide.{decLe}
 use native.Mathlib.Numerals.{add-one}
 use native.Mathlib.Omega.{arith}
-use lib.Dec.{leb, ltb, eqb}
+use lib.Dec.{ltb, eqb}
 use lib.ListN.{length, getD, take, drop, length-append, length-drop}
 use lib.Seq.{take-at, drop-at, drop-cons}
-use borrow.Author.Tests.{le-leb, lt-leb, leb-true, leb-false, lt-ltb, le-ltb, eqb-true, eqb-false, eq-eqb, ne-eqb}
+use borrow.Author.Tests.{le-leb, lt-leb, lt-ltb, eqb-true, eqb-false}
 use Rattle.table.specs.Numbers.{blankCell, signLineEnd, signEmptyLine, signParagraph, signPageEnd}
 use Rattle.table.specs.Search.{isThere}
+use Rattle.layout.specs.Numbers.{mostWidth}
 use Rattle.layout.specs.Words.{Item, word, lineEnd, emptyLine, paragraph, pageEnd, formatOf, closed, gathered, cutWithin, parts, cutItem, cut}
 use Rattle.layout.specs.Place.{afterWord, wordBytes, afterItem, itemBytes, afterItems, itemsBytes, afterPageEnd, pageEndBytes, ended}
 use Rattle.layout.specs.Gather.{Modest, afterFlush, flushBytes, afterFormat, formatBytes, stepped, waiting, stepBytes, afterRest, restBytes}
-use Rattle.layout.specs.declared.Gathering.{Gathering}
 use Rattle.layout.specs.declared.Place.{Place}
 use Rattle.layout.proofs.Moves.{modest-more, modest-word, modest-line-end, modest-empty-line, modest-paragraph, modest-page-end}
 
@@ -299,8 +299,8 @@ module _ (W P : ℕ) where
       go (some pageEnd) e = unfold afterFormat afterItem in rw (e, afterFormat) (modest-page-end P m p d)
       go (some (word cells)) e = absurd (format-no-word g cells e)
 
-  -- a sign adds at most 70 to each number, where fewer than 61 cells wait
-  pub modest-step : (m n g : ℕ) (p : Place) → n < 61 → Modest m p → Modest (m + 70) (stepped W P p n g .place)
+  -- a sign adds at most 70 to each number, where no more cells wait than a line holds
+  pub modest-step : (m n g : ℕ) (p : Place) → n ≤ mostWidth → Modest m p → Modest (m + 70) (stepped W P p n g .place)
   unfolding stepped
   modest-step m n g p h d = go (eqb g blankCell) (isThere (formatOf g)) (eqb (n + 1) W) refl refl refl
     where

@@ -1,8 +1,8 @@
 -- The pass that writes, in the middle: what is written so far, joined to what the rest of the signs still yields from here, is the whole. A turn keeps that,
 -- every run of bytes has room where the whole has, and at the end the whole stands in the output.
-use Prim.Native.Nat.{ℕ, suc, _+_, _*_, _^_, _≤_, _<_}
-use mathlib.Core.List.{List, [], _∷_, _++_, append-assoc}
-use mathlib.Core.Path.{_≡_, refl, sym, _∙_, ap, subst}
+use Prim.Native.Nat.{ℕ, _+_, _*_, _^_, _≤_, _<_}
+use mathlib.Core.List.{List, [], _++_, append-assoc}
+use mathlib.Core.Path.{_≡_, refl, sym, _∙_, ap}
 use native.Mathlib.Omega.{arith}
 use lib.ListN.{length, getD, take, drop, length-append, drop-of-length-le}
 use lib.Seq.{sets, length-sets, length-take-le}

@@ -10,6 +10,7 @@ use native.Mathlib.Omega.{arith}
 use lib.Dec.{leb, ltb, eqb}
 use lib.ListN.{length}
 use borrow.Author.Tests.{ltb-true, ltb-false, leb-true, eqb-true, eqb-false}
+use Rattle.table.specs.Lists.{empty, _and_}
 use Rattle.layout.specs.Numbers.{gapBlanks, paragraphBlanks, lineMark, pageMark}
 use Rattle.layout.specs.Words.{Item, word, lineEnd, emptyLine, paragraph, pageEnd}
 use Rattle.layout.specs.Place.{
@@ -44,29 +45,14 @@ use Rattle.layout.specs.Place.{
 }
 use Rattle.layout.specs.Permitted.{Spot}
 use Rattle.layout.specs.Spots.{spot, spotAfter, spotsFrom}
-use Rattle.layout.specs.Lists.{empty, _and_}
 use Rattle.layout.specs.Fitting.{WordFits, Fitting, wordsIn}
 use Rattle.layout.specs.declared.Place.{Place}
 use Rattle.layout.proofs.Moves.{line-is-fresh, line-end-is-fresh, page-end-lined, page-end-empty, held-or-empty}
 
--- ---- The four moves of a place
-
-abbrev pub celled : Place → ℕ → ℕ → Place
-celled p blanks n =
-    record {
-      column = p .column + blanks + n;
-      line = p .line;
-      opening = false;
-      written = p .written + blanks + n;
-      lines = p .lines;
-      pages = p .pages;
-    }
+-- ---- Of the four moves of a place, the two that the definitions have no name for
 
 abbrev pub lined : Place → Place
 lined p = record { column = 0; line = p .line + 1; opening = p .opening; written = p .written + 1; lines = p .lines + 1; pages = p .pages }
-
-abbrev pub paged : Place → Place
-paged p = record { column = 0; line = 0; opening = p .opening; written = p .written + 1; lines = p .lines; pages = p .pages + 1 }
 
 abbrev pub opened : Place → Place
 opened p = record { column = p .column; line = p .line; opening = true; written = p .written; lines = p .lines; pages = p .pages }
@@ -74,11 +60,11 @@ opened p = record { column = p .column; line = p .line; opening = true; written 
 pub record Kept (W P : ℕ) (R : List ℕ → List (List ℕ) → List Spot → Place → Type 0) : Type 0 where
   pub cells : (bytes : List ℕ) (words : List (List ℕ)) (spots : List Spot) (p : Place) (blanks : ℕ) (w : List ℕ) → WordFits W w
       → p .column + blanks + length w ≤ W → R bytes words spots p
-      → R (bytes ++ cellsAfter blanks w) (words ++ w ∷ []) (spots ++ spot (celled p blanks (length w)) ∷ []) (celled p blanks (length w))
+      → R (bytes ++ cellsAfter blanks w) (words ++ w ∷ []) (spots ++ spot (afterCells p blanks (length w)) ∷ []) (afterCells p blanks (length w))
   pub line : (bytes : List ℕ) (words : List (List ℕ)) (spots : List Spot) (p : Place) → p .line < P → R bytes words spots p
       → R (bytes ++ lineMark ∷ []) words spots (lined p)
   pub page : (bytes : List ℕ) (words : List (List ℕ)) (spots : List Spot) (p : Place) → p .column ≡ 0 → 0 < p .line → p .line ≤ P
-      → R bytes words spots p → R (bytes ++ pageMark ∷ []) words spots (paged p)
+      → R bytes words spots p → R (bytes ++ pageMark ∷ []) words spots (afterPage p)
   pub opens : (bytes : List ℕ) (words : List (List ℕ)) (spots : List Spot) (p : Place) → R bytes words spots p → R bytes words spots (opened p)
 
 -- ---- What opens a line fits
@@ -129,7 +115,7 @@ module _ (W P : ℕ) (R : List ℕ → List (List ℕ) → List Spot → Place �
 
   module _ (bytes : List ℕ) (words : List (List ℕ)) (spots : List Spot) (p : Place) (held : Held bytes words spots p) where
     line-kept : Held (bytes ++ lineBytes P p) words spots (afterLine P p)
-    unfolding afterLine lineBytes fillsPage
+    unfolding afterLine lineBytes fillsPage afterPage
     line-kept = go (eqb (p .line + 1) P) refl (kept .line bytes words spots p (held .room) (held .holds))
       where
         go : (b : Bool) → eqb (p .line + 1) P ≡ b → R (bytes ++ lineMark ∷ []) words spots (lined p)
@@ -234,10 +220,6 @@ module _ (W P : ℕ) (R : List ℕ → List (List ℕ) → List Spot → Place �
       rw append-assoc at (items-held (bytes ++ paragraphBytes P p) words spots _ items rest (paragraph-kept bytes words spots p held))
   items-held bytes words spots p (pageEnd ∷ items) (fits and rest) held =
       rw append-assoc at (items-held (bytes ++ pageEndBytes P p) words spots _ items rest (page-end-kept bytes words spots p held))
-
-  pub items-keep : (p : Place) (items : List Item) → Fitting W items → p .line < P → R [] [] [] p
-      → R (itemsBytes W P p items) (wordsIn items) (spotsFrom W P p items) (afterItems W P p items)
-  items-keep p items fits room r = items-held [] [] [] p items fits (record { room = room; holds = r }) .holds
 
   module _ (items : List Item) (fits : Fitting W items) (room : 0 < P) (outset : R [] [] [] start) where
     at-the-end : Held (itemsBytes W P start items) (wordsIn items) (spotsFrom W P start items) (afterItems W P start items)

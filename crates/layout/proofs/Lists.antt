@@ -1,46 +1,10 @@
--- Laws of lists: of `All`, of `flatten` and of `only`, for lists joined and member by member.
-use Prim.Native.Nat.{ℕ, zero, suc, _<_}
+-- Laws of lists: of `flatten` and of `only`, for lists joined and member by member.
+use Prim.Native.Nat.{ℕ}
 use mathlib.Core.Bool.{Bool, true, false}
 use mathlib.Core.List.{List, [], _∷_, _++_, append-assoc, flatten}
 use mathlib.Core.Path.{_≡_, refl, sym}
-use lib.ListN.{length, getD, take, drop, replicate}
-use native.Mathlib.Omega.{arith}
-use Rattle.layout.specs.Lists.{All, empty, _and_, only}
-
--- ---- Each member of a list has a property
-
-pub all-append : {A : Type 0} {holds : A → Type 0} {xs ys : List A} → All holds xs → All holds ys → All holds (xs ++ ys)
-all-append empty k = k
-all-append (h and hs) k = h and all-append hs k
-
-pub all-replicate : {A : Type 0} {holds : A → Type 0} (n : ℕ) (x : A) → holds x → All holds (replicate n x)
-all-replicate zero x h = empty
-all-replicate (suc n) x h = h and all-replicate n x h
-
-pub all-weaker : {A : Type 0} {holds also : A → Type 0} {xs : List A} → ((x : A) → holds x → also x) → All holds xs → All also xs
-all-weaker f empty = empty
-all-weaker f (_and_ {x} h hs) = f x h and all-weaker f hs
-
-pub all-take : {A : Type 0} {holds : A → Type 0} {xs : List A} (n : ℕ) → All holds xs → All holds (take n xs)
-all-take zero empty = empty
-all-take zero (h and hs) = empty
-all-take (suc n) empty = empty
-all-take (suc n) (h and hs) = h and all-take n hs
-
-pub all-drop : {A : Type 0} {holds : A → Type 0} {xs : List A} (n : ℕ) → All holds xs → All holds (drop n xs)
-all-drop zero empty = empty
-all-drop zero (h and hs) = h and hs
-all-drop (suc n) empty = empty
-all-drop (suc n) (h and hs) = all-drop n hs
-
-pub all-at : {A : Type 0} {holds : A → Type 0} {xs : List A} → All holds xs → (i : ℕ) (d : A) → i < length xs → holds (getD xs i d)
-all-at empty i d l = absurd (omega arith)
-all-at (h and hs) zero d l = h
-all-at (h and hs) (suc i) d l = all-at hs i d (omega arith)
-
-pub all-of-places : {A : Type 0} {holds : A → Type 0} (xs : List A) (d : A) → ((i : ℕ) → i < length xs → holds (getD xs i d)) → All holds xs
-all-of-places [] d h = empty
-all-of-places (x ∷ xs) d h = h 0 (omega arith) and all-of-places xs d (λ i l. h (suc i) (omega arith))
+use Rattle.table.specs.Lists.{All, empty, _and_}
+use Rattle.layout.specs.Lists.{only}
 
 -- ---- Lists of lists
 

@@ -1,34 +1,14 @@
 -- Laws of the moves, case by case: what each move does, by the fact that the paper names and not by a test.
 use Prim.Native.Nat.{ℕ, zero, suc, _+_, _≤_, _<_}
-use mathlib.Core.Bool.{Bool, true, false, cond, _&&_}
-use mathlib.Core.List.{List, [], _∷_, _++_}
+use mathlib.Core.Bool.{Bool, true, false, _&&_}
 use mathlib.Core.Logic.{_⊎_, inl, inr}
-use mathlib.Core.Path.{_≡_, refl, sym, _∙_, ap}
+use mathlib.Core.Path.{_≡_, refl, sym, _∙_}
 use native.Mathlib.Decide.{decLe, decLt}
 use native.Mathlib.Omega.{arith}
-use lib.Dec.{leb, ltb, eqb}
-use lib.ListN.{length}
+use lib.Dec.{leb}
 use borrow.Author.Tests.{lt-ltb, le-ltb, le-leb, lt-leb, eq-eqb, ne-eqb}
-use Rattle.layout.specs.Numbers.{gapBlanks, paragraphBlanks, lineMark, pageMark}
-use Rattle.layout.specs.Place.{
-  holdsCell,
-  hasLine,
-  fillsPage,
-  afterLine,
-  lineBytes,
-  afterLineEnd,
-  lineEndBytes,
-  afterEmptyLine,
-  afterParagraph,
-  afterPage,
-  afterPageEnd,
-  openingBlanks,
-  joins,
-  afterCells,
-  cellsAfter,
-  afterWord,
-  wordBytes,
-}
+use Rattle.layout.specs.Numbers.{gapBlanks, paragraphBlanks}
+use Rattle.layout.specs.Place.{holdsCell, hasLine, fillsPage, afterLine, afterLineEnd, afterEmptyLine, afterParagraph, afterPage, afterPageEnd, openingBlanks, joins, afterCells, afterWord}
 use Rattle.layout.specs.Gather.{Modest}
 use Rattle.layout.specs.declared.Place.{Place}
 

@@ -4,7 +4,7 @@
 -- in the column; every move keeps that, and so does a sign 70 in the other alone.
 use Prim.Native.Nat.{ℕ, zero, suc, _+_, _≤_, _<_}
 use mathlib.Core.Bool.{Bool, true, false, cond}
-use mathlib.Core.List.{List, [], _∷_, _++_}
+use mathlib.Core.List.{List, [], _∷_}
 use mathlib.Core.Logic.{_⊎_, inl, inr}
 use mathlib.Core.Path.{_≡_, refl, sym, _∙_, ap, subst}
 use native.Mathlib.Decide.{decLe, decLt}
@@ -12,7 +12,7 @@ use native.Mathlib.Omega.{arith}
 use lib.Dec.{ltb, eqb}
 use lib.ListN.{length}
 use borrow.Author.Tests.{lt-ltb, le-ltb, eq-eqb, ne-eqb}
-use Rattle.layout.specs.Numbers.{gapBlanks, paragraphBlanks}
+use Rattle.layout.specs.Numbers.{gapBlanks}
 use Rattle.layout.specs.Words.{Item, word, lineEnd, emptyLine, paragraph, pageEnd}
 use Rattle.layout.specs.Place.{
   start,
@@ -30,20 +30,8 @@ use Rattle.layout.specs.Place.{
   ended,
   volumeEnd,
 }
-use Rattle.layout.specs.Permitted.{Spot, Layout, Permitted}
-use Rattle.layout.specs.Spots.{
-  spot,
-  spotAfter,
-  spotsFrom,
-  layoutOf,
-  withChoices,
-  ByChoices,
-  NoLaterSpot,
-  NoLaterSpots,
-  no-word,
-  each-word,
-  NoLater,
-}
+use Rattle.layout.specs.Permitted.{Layout, Permitted}
+use Rattle.layout.specs.Spots.{spot, spotAfter, spotsFrom, layoutOf, withChoices, NoLaterSpot, NoLaterSpots, no-word, each-word, NoLater}
 use Rattle.layout.specs.declared.Place.{Place}
 use Rattle.layout.proofs.Moves as Moves
 use Rattle.layout.proofs.Permitted.{permitted-by-choices}

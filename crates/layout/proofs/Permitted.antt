@@ -1,7 +1,7 @@
 -- Demand 3: the relation of permitted layouts is as wide as the paper and no wider. For each list of choices the layout that ends the line before each
 -- chosen word is permitted, ours is the one with no choice, and every permitted layout arises from such a list. The idea: a stage of the relation is a
 -- place without its count of bytes, and each rule is a move, or sign 70 before a word and then a move.
-use Prim.Native.Nat.{ℕ, zero, suc, _+_, _≤_, _<_}
+use Prim.Native.Nat.{ℕ, suc, _+_, _≤_, _<_}
 use mathlib.Core.Bool.{Bool, true, false}
 use mathlib.Core.List.{List, [], _∷_, _++_}
 use mathlib.Core.Logic.{_⊎_, inl, inr}
@@ -11,57 +11,8 @@ use native.Mathlib.Omega.{arith}
 use lib.ListN.{length}
 use Rattle.layout.specs.Numbers.{gapBlanks, paragraphBlanks}
 use Rattle.layout.specs.Words.{Item, word, lineEnd, emptyLine, paragraph, pageEnd}
-use Rattle.layout.specs.Place.{
-  start,
-  holdsCell,
-  hasLine,
-  afterLine,
-  afterLineEnd,
-  afterEmptyLine,
-  afterParagraph,
-  afterPage,
-  afterPageEnd,
-  openingBlanks,
-  afterCells,
-  afterWord,
-  afterItem,
-  afterItems,
-  ended,
-  volumeEnd,
-}
-use Rattle.layout.specs.Permitted.{
-  Spot,
-  Stage,
-  outset,
-  worded,
-  opened,
-  paged,
-  lined,
-  LineEnds,
-  page-goes-on,
-  page-is-full,
-  EndsIfHeld,
-  line-empty,
-  line-held,
-  PageEndsIfLined,
-  page-empty,
-  page-lined,
-  Lays,
-  starts,
-  opens,
-  opens-wide,
-  follows,
-  overflows,
-  ends-early,
-  sign-70,
-  sign-71,
-  sign-71-at-top,
-  sign-72,
-  sign-73,
-  end-of-text,
-  Layout,
-  Permitted,
-}
+use Rattle.layout.specs.Place.{start, afterLine, afterLineEnd, afterEmptyLine, afterParagraph, afterPage, afterPageEnd, openingBlanks, afterCells, afterWord, afterItem, afterItems, ended, volumeEnd}
+use Rattle.layout.specs.Permitted.{Spot, Stage, worded, opened, LineEnds, page-goes-on, page-is-full, EndsIfHeld, line-empty, line-held, PageEndsIfLined, page-empty, page-lined, Lays, starts, opens, opens-wide, follows, overflows, ends-early, sign-70, sign-71, sign-71-at-top, sign-72, sign-73, end-of-text, Layout, Permitted}
 use Rattle.layout.specs.Spots.{spot, spotAfter, spotsFrom, layoutOf, wordCount, withChoices, ByChoices}
 use Rattle.layout.specs.declared.Place.{Place}
 use Rattle.layout.proofs.Moves as Moves

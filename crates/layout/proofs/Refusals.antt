@@ -2,9 +2,9 @@
 -- line does; a refused call leaves the output as lent, and a done call leaves everything beyond the written bytes as lent. The call makes its checks
 -- in the paper's order, so each answer comes with what the checks before it found.
 use Prim.Native.Nat.{ℕ, zero, suc, _≤_, _<_}
-use mathlib.Core.Bool.{Bool, true, false, _&&_}
-use mathlib.Core.List.{List, [], _∷_, _++_}
-use mathlib.Core.Logic.{_↔_, _⊎_, inl, inr}
+use mathlib.Core.Bool.{Bool, true, false}
+use mathlib.Core.List.{List}
+use mathlib.Core.Logic.{_↔_, inl, inr}
 use mathlib.Core.Option.{Option, none, some}
 use mathlib.Core.Path.{_≡_, refl, sym, _∙_, ap, subst, subst₂}
 use native.Mathlib.Decide.{decLt}
@@ -12,13 +12,11 @@ use native.Mathlib.Omega.{arith}
 use lib.Dec.{leb}
 use lib.ListN.{length, drop}
 use lib.Seq.{drop-append-seam}
-use borrow.Author.Tests.{le-leb, lt-leb, leb-true, leb-false}
-use Rattle.table.specs.Numbers.{noPlace, numberDone, blank}
-use Rattle.table.specs.Search.{within}
+use borrow.Author.Tests.{leb-true, leb-false}
+use Rattle.table.specs.Numbers.{noPlace, numberDone}
 use Rattle.table.specs.Refusals.{Between, Refusal1, Refusal2, Refusal3, Refusal4}
 use Rattle.table.specs.Table.{tableOf}
 use Rattle.table.specs.Verdict.{verdictOf}
-use Rattle.table.specs.declared.Fault.{Fault}
 use Rattle.table.specs.declared.Fault.the-variants.{Frame, Record, NoBlank, Grouping}
 use Rattle.table.specs.declared.Verdict.{Verdict}
 use Rattle.table.specs.declared.Verdict.the-variants.{Accepted, Refused}
@@ -27,7 +25,7 @@ use Rattle.table.proofs.Tests.{Tells, decided-by, fails-law, tells-and, tells-w
 use Rattle.translation.specs.Numbers.{mostText}
 use Rattle.translation.specs.Letters.{firstUnknown}
 use Rattle.translation.specs.Pieces.{piecesOf}
-use Rattle.translation.specs.Refusals.{TextTooLong, FirstUnknownAt, UnknownAt}
+use Rattle.translation.specs.Refusals.{TextTooLong, FirstUnknownAt}
 use Rattle.translation.specs.declared.Setting.{Setting}
 use Rattle.translation.proofs.Refusals.{unknown-exactly-when, none-unknown-exactly-when}
 use Rattle.layout.specs.Numbers.{leastWidth, mostWidth, leastPage, mostPage}
@@ -48,7 +46,7 @@ use Rattle.layout.specs.Emboss.{
 }
 use Rattle.layout.specs.Refusals.{Outside, SizesWrong, needed, Line, line-1, line-2, line-3, line-4, line-5, line-6, line-7, line-8, FirstLine}
 use Rattle.layout.specs.declared.Answer.{Answer}
-use Rattle.layout.specs.declared.Answer.the-variants.{Done, Table as TableRefused, Size, LongText, Unknown, Room}
+use Rattle.layout.specs.declared.Answer.the-variants.{Table as TableRefused, Size, LongText, Unknown, Room}
 
 -- ---- The sizes
 

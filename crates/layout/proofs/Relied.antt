@@ -1,10 +1,9 @@
 -- The three demands of the whole call. Each theorem has one hypothesis, the promise of `emboss`: whatever answer and bytes afterwards it allows for an
 -- image, a text, W, P and the bytes lent, they have the property.
 use Prim.Native.Nat.{ℕ, suc, _<_, _≤_}
-use mathlib.Core.Bool.{Bool, true, false}
 use mathlib.Core.List.{List, _++_, flatten}
 use mathlib.Core.Logic.{_↔_}
-use mathlib.Core.Path.{_≡_, refl, sym, _∙_, ap, subst, subst₂}
+use mathlib.Core.Path.{_≡_, refl, sym, _∙_, ap, subst}
 use native.Mathlib.Decide.{decLt}
 use native.Mathlib.Omega.{arith}
 use lib.ListN.{length, take, drop, length-append}
@@ -15,20 +14,21 @@ use Rattle.table.specs.Table.{tableOf}
 use Rattle.table.specs.Verdict.{verdictOf}
 use Rattle.table.specs.declared.Verdict.the-variants.{Accepted}
 use Rattle.table.proofs.Refusals.{no-refusal-1, no-refusal-2, no-refusal-3, no-refusal-4, accepted}
+use Rattle.table.specs.Lists.{All}
 use Rattle.translation.specs.Collapse.{collapsed}
 use Rattle.translation.specs.Pieces.{piecesOf}
 use Rattle.translation.proofs.Chosen.{first-in-order}
 use Rattle.translation.proofs.States.{states-start, states-move}
 use Rattle.translation.specs.Translate.{blankFollows}
 use Rattle.layout.specs.Numbers.{leastWidth, mostWidth, leastPage, mostPage}
-use Rattle.layout.specs.Lists.{All, only}
+use Rattle.layout.specs.Lists.{only}
 use Rattle.layout.specs.Pages.{pagesOf, bytesOfPages}
 use Rattle.layout.specs.Spots.{layoutOf}
 use Rattle.layout.specs.Fitting.{wordsIn}
 use Rattle.layout.specs.Right.{PageRight}
 use Rattle.layout.specs.Signs.{isDotted}
 use Rattle.layout.specs.Drawn.{volumeLines, Drawn}
-use Rattle.layout.specs.Emboss.{number, place, written, pieces, lines, pages, Outcome, refused, done, bytesOf, embossFollowed, embossing}
+use Rattle.layout.specs.Emboss.{number, place, written, pieces, lines, pages, Outcome, done, bytesOf, embossFollowed, embossing}
 use Rattle.layout.specs.Refusals.{Line, line-1, line-2, line-3, line-4, line-5, line-8, FirstLine}
 use Rattle.layout.specs.Promises.{Embossed}
 use Rattle.layout.specs.Relied.{wrote, textPieces, textItems, Untouched, Bounded, Translates, LaysOut, Earliest}

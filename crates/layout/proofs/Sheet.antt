@@ -10,16 +10,17 @@ use lib.ListN.{length, getD, replicate, length-append}
 use lib.Seq.{getD-append-seam, getD-append-add}
 use borrow.Author.Tests.{ne-eqb}
 use Rattle.table.specs.Numbers.{blankCell}
+use Rattle.table.specs.Lists.{All, empty, _and_}
+use Rattle.table.proofs.Lists.{all-append, all-at}
 use Rattle.layout.specs.Numbers.{lineMark, pageMark}
 use Rattle.layout.specs.Words.{Item}
-use Rattle.layout.specs.Place.{start, cellsAfter, volumeEnd, volume}
+use Rattle.layout.specs.Place.{start, afterPage, afterCells, cellsAfter, volumeEnd, volume}
 use Rattle.layout.specs.Pages.{Line, Page, bytesOfLines, bytesOfPages, pagesFrom, pagesOf, count}
-use Rattle.layout.specs.Lists.{All, empty, _and_}
 use Rattle.layout.specs.Fitting.{WordFits, Fitting}
 use Rattle.layout.specs.Right.{IsCell, LineRight, PageRight}
 use Rattle.layout.specs.declared.Place.{Place}
-use Rattle.layout.proofs.Lists.{all-append, all-at, flatten-append}
-use Rattle.layout.proofs.Kept.{Kept, celled, lined, paged, opened, AtEnd, volume-ends, volume-keeps}
+use Rattle.layout.proofs.Lists.{flatten-append}
+use Rattle.layout.proofs.Kept.{Kept, lined, opened, AtEnd, volume-ends, volume-keeps}
 use Rattle.layout.proofs.Counts.{cells-after, length-after, lines-are-64s, pages-are-65s}
 
 -- ---- A sheet, and what a byte does to it: 65 ends the page, 64 the line, and any other goes on the line
@@ -125,8 +126,8 @@ ends-in-word {w} fits xs front e =
 
 module _ (W P : ℕ) (bytes : List ℕ) (s : Sheet) (p : Place) (st : Standing W P bytes s p) where
   inked-standing : (blanks : ℕ) (w : List ℕ) → WordFits W w → p .column + blanks + length w ≤ W
-      → Standing W P (bytes ++ cellsAfter blanks w) (inked s (cellsAfter blanks w)) (celled p blanks (length w))
-  unfolding cellsAfter
+      → Standing W P (bytes ++ cellsAfter blanks w) (inked s (cellsAfter blanks w)) (afterCells p blanks (length w))
+  unfolding cellsAfter afterCells
   inked-standing blanks w fits h =
       record {
         has = rw (← (st .has)) (simp append-assoc);
@@ -158,8 +159,8 @@ module _ (W P : ℕ) (bytes : List ℕ) (s : Sheet) (p : Place) (st : Standing W
         on-line = refl;
       }
 
-  turned-standing : p .column ≡ 0 → 0 < p .line → p .line ≤ P → Standing W P (bytes ++ pageMark ∷ []) (turned s) (paged p)
-  unfolding bytesOfLines bytesOfPages flatten
+  turned-standing : p .column ≡ 0 → 0 < p .line → p .line ≤ P → Standing W P (bytes ++ pageMark ∷ []) (turned s) (afterPage p)
+  unfolding bytesOfLines bytesOfPages flatten afterPage
   turned-standing c l m =
       let nothing : s .line ≡ [] = nil-of-length (s .line) (omega arith) in
       record {

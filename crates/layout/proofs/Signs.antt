@@ -10,6 +10,7 @@ use lib.ListN.{length, getD, replicate}
 use borrow.Author.Tests.{le-leb, lt-leb, ne-eqb}
 use Rattle.table.specs.Numbers.{blankCell}
 use Rattle.table.specs.Cells.{mostCell}
+use Rattle.table.proofs.Lists.{all-replicate, all-weaker, all-of-places}
 use Rattle.translation.specs.Signs.{PrintedSign, cell, format}
 use Rattle.layout.specs.Words.{Item, itemsOf}
 use Rattle.layout.specs.Place.{cellsAfter, volume}
@@ -17,7 +18,7 @@ use Rattle.layout.specs.Pages.{Line, Page, bytesOfLines, bytesOfPages, p
 use Rattle.layout.specs.Lists.{only}
 use Rattle.layout.specs.Fitting.{Dotted, WordFits, Fitting, wordsIn}
 use Rattle.layout.specs.Signs.{isDotted, endsWord, staysInWord}
-use Rattle.layout.proofs.Lists.{all-replicate, all-weaker, all-of-places, flatten-append, only-append, only-all, only-none, only-same}
+use Rattle.layout.proofs.Lists.{flatten-append, only-append, only-all, only-none, only-same}
 use Rattle.layout.proofs.Kept.{Kept, volume-keeps}
 use Rattle.layout.proofs.Sheet.{pages-have-the-bytes}
 use Rattle.layout.proofs.Words.{format-signs, no-format, items-fit, items-join}

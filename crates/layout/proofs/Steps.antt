@@ -1,11 +1,10 @@
 -- What a sign does, by case: a blank, a format sign, the cell that fills the line, a cell that waits. The place with the cells that wait then, the bytes,
 -- and those cells.
-use Prim.Native.Nat.{ℕ, _+_, _≤_, _<_}
-use mathlib.Core.Bool.{Bool, true, false}
+use Prim.Native.Nat.{ℕ, _+_, _<_}
+use mathlib.Core.Bool.{true, false}
 use mathlib.Core.List.{List, [], _∷_, _++_}
-use mathlib.Core.Path.{_≡_, refl, sym, _∙_, ap}
+use mathlib.Core.Path.{_≡_}
 use native.Mathlib.Numerals.{add-one}
-use native.Mathlib.Omega.{arith}
 use lib.ListN.{length, set, take}
 use lib.Seq.{take-suc-set}
 use borrow.Author.Tests.{eq-eqb, ne-eqb}
@@ -13,7 +12,6 @@ use Rattle.table.specs.Search.{isThere}
 use Rattle.layout.specs.Words.{formatOf}
 use Rattle.layout.specs.Place.{afterWord, wordBytes}
 use Rattle.layout.specs.Gather.{afterFlush, flushBytes, afterFormat, formatBytes, stepped, waiting, stepBytes}
-use Rattle.layout.specs.declared.Gathering.{Gathering}
 use Rattle.layout.specs.declared.Place.{Place}
 
 pub record StepIs (W P : ℕ) (p : Place) (cells : List ℕ) (n g : ℕ) (q : Place) (m : ℕ) (bytes cells′ : List ℕ) : Type 0 where

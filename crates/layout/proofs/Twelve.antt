@@ -3,7 +3,7 @@
 use Prim.Native.Nat.{ℕ, _-_}
 use Prim.Native.String.{String}
 use mathlib.Core.List.{List, [], _∷_, _++_, map}
-use mathlib.Core.Bool.{Bool, true, false}
+use mathlib.Core.Bool.{true, false}
 use mathlib.Core.Path.{_≡_, refl}
 use native.Mathlib.Omega.{arith}
 use lib.ListN.{length, replicate}
@@ -12,7 +12,6 @@ use Rattle.translation.specs.Pieces.{piecesOf, signsOf}
 use Rattle.translation.specs.Translate.{blankFollows}
 use Rattle.layout.specs.Words.{Item, word, itemsOf}
 use Rattle.layout.specs.Permitted.{Permitted}
-use Rattle.layout.specs.Pages.{pagesOf, bytesOfPages}
 use Rattle.layout.specs.Emboss.{Outcome, embossing, number, place, written, pieces, lines, pages}
 use Rattle.layout.specs.Computing.{computing}
 use Rattle.layout.proofs.Permitted.{choices-permitted}
@@ -106,9 +105,3 @@ two-lines-permitted :
     (record { spots = record { line = 0; column = 4 } ∷ record { line = 1; column = 3 } ∷ []; lines = 2; pages = 1 })
 unfolding computing four-and-three
 two-lines-permitted = choices-permitted 8 2 (omega arith) four-and-three (false ∷ true ∷ [])
-
--- ---- The pages of an output, as lists of lines, have the output as their bytes
-
-pages-of-rows : map (λ (r : Row). bytesOfPages (pagesOf (r .output))) (twelve ++ corners) ≡ map (λ (r : Row). r .output) (twelve ++ corners)
-unfolding computing row twelve corners
-pages-of-rows = refl

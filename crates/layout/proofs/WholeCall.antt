@@ -1,5 +1,5 @@
 -- The whole call, case by case: what the verdict, the sizes and the translation say of its outcome.
-use Prim.Native.Nat.{ℕ, _<_, _≤_}
+use Prim.Native.Nat.{ℕ, _≤_}
 use mathlib.Core.Bool.{Bool, true, false}
 use mathlib.Core.List.{List, _++_}
 use mathlib.Core.Option.{Option, none, some}
@@ -8,7 +8,7 @@ use native.Mathlib.Omega.{arith}
 use lib.Dec.{leb}
 use lib.ListN.{length, take, drop, length-append}
 use lib.Seq.{take-append-seam}
-use borrow.Author.Tests.{le-leb, leb-true}
+use borrow.Author.Tests.{leb-true}
 use Rattle.table.specs.Refusals.{Between}
 use Rattle.table.specs.Table.{tableOf}
 use Rattle.table.specs.Verdict.{verdictOf}
@@ -35,7 +35,7 @@ use Rattle.layout.specs.Emboss.{Outcome, refused, roomed, bytesOf, judge
 use Rattle.layout.specs.Promises.{Embossed}
 use Rattle.layout.specs.Writing.{Filled, Fillable}
 use Rattle.layout.specs.declared.Answer.{Answer}
-use Rattle.layout.specs.declared.Answer.the-variants.{Done, Table as TableRefused, Size, LongText, Unknown, Room}
+use Rattle.layout.specs.declared.Answer.the-variants.{Done, Table as TableRefused, Size, LongText, Unknown}
 use Rattle.layout.proofs.Refusals.{sizes-right, sizes-not-wrong}
 
 module _ (image text : List ℕ) (W P : ℕ) (out : List ℕ) where

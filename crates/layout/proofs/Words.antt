@@ -13,14 +13,16 @@ use borrow.Author.Tests.{ne-eqb, leb-true, leb-false, eqb-false}
 use Rattle.table.specs.Numbers.{blankCell, signLineEnd, signEmptyLine, signParagraph, signPageEnd}
 use Rattle.table.specs.Cells.{mostCell}
 use Rattle.table.specs.Search.{isThere}
+use Rattle.table.specs.Lists.{All, empty, _and_}
+use Rattle.table.proofs.Lists.{all-append, all-take, all-drop, all-of-places}
 use Rattle.translation.specs.Signs.{PrintedSign, cell, format}
 use Rattle.layout.specs.Words.{Item, word, lineEnd, emptyLine, paragraph, pageEnd}
 use Rattle.layout.specs.Words.{formatOf, closed, gathered, wordsOf, cutWithin, parts, cutItem, cut, itemsOf}
 use Rattle.layout.specs.Spots.{withChoices}
-use Rattle.layout.specs.Lists.{All, empty, _and_, only}
+use Rattle.layout.specs.Lists.{only}
 use Rattle.layout.specs.Fitting.{Dotted, WordFits, Fitting, wordsIn}
 use Rattle.layout.specs.Signs.{endsWord, staysInWord}
-use Rattle.layout.proofs.Lists.{all-append, all-take, all-drop, all-of-places, flatten-append}
+use Rattle.layout.proofs.Lists.{flatten-append}
 
 -- ---- The words of items
 

@@ -4,7 +4,7 @@ use Prim.Native.Nat.{ℕ, _≤_}
 use mathlib.Core.List.{List, [], _∷_}
 use lib.ListN.{length}
 use Rattle.table.specs.Cells.{mostCell}
-use Rattle.layout.specs.Lists.{All}
+use Rattle.table.specs.Lists.{All}
 use Rattle.layout.specs.Words.{Item, word, lineEnd, emptyLine, paragraph, pageEnd}
 
 -- a cell that isn't blank

@@ -9,13 +9,14 @@ use Rattle.table.specs.Refusals.{Between}
 use Rattle.table.specs.Table.{tableOf}
 use Rattle.table.specs.Verdict.{verdictOf}
 use Rattle.table.specs.declared.Verdict.the-variants.{Accepted}
+use Rattle.table.specs.Lists.{All}
 use Rattle.translation.specs.Collapse.{collapsed}
 use Rattle.translation.specs.Decide.{state, moved}
 use Rattle.translation.specs.Pieces.{Piece, characters, piecesOf, signsOf}
 use Rattle.translation.specs.Chosen.{Chosen, piece}
 use Rattle.translation.specs.Translate.{blankFollows}
 use Rattle.layout.specs.Numbers.{leastWidth, mostWidth, leastPage, mostPage}
-use Rattle.layout.specs.Lists.{All, only}
+use Rattle.layout.specs.Lists.{only}
 use Rattle.layout.specs.Words.{Item, itemsOf}
 use Rattle.layout.specs.Pages.{pagesOf, bytesOfPages}
 use Rattle.layout.specs.Permitted.{Layout, Permitted}

@@ -6,8 +6,8 @@ use mathlib.Core.Path.{_≡_}
 use lib.ListN.{length}
 use Rattle.table.specs.Numbers.{blankCell}
 use Rattle.table.specs.Cells.{mostCell}
+use Rattle.table.specs.Lists.{All}
 use Rattle.layout.specs.Pages.{Line, Page}
-use Rattle.layout.specs.Lists.{All}
 
 abbrev pub IsCell : ℕ → Type 0
 IsCell c = c ≤ mostCell

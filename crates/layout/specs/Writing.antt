@@ -1,10 +1,13 @@
 -- What a move that writes does: it hands the moved place back, and its bytes stand in the output from the place's own number on; everything else is as it was.
-use Prim.Native.Nat.{ℕ, _+_, _≤_, _<_}
+use Prim.Native.Nat.{ℕ, _+_, _*_, _≤_, _<_}
 use mathlib.Core.List.{List}
 use mathlib.Core.Path.{_≡_}
 use lib.ListN.{length, getD, take}
 use lib.Seq.{sets}
+use Rattle.table.specs.Numbers.{entrySigns}
+use Rattle.translation.specs.Numbers.{mostText}
 use Rattle.translation.specs.Signs.{PrintedSign}
+use Rattle.layout.specs.Numbers.{mostWidth}
 use Rattle.layout.specs.Emboss.{roomed}
 use Rattle.layout.specs.Gather.{Modest, stepped, waiting, stepBytes}
 use Rattle.layout.specs.declared.Answer.{Answer}
@@ -32,9 +35,9 @@ pub record Signed (W P : ℕ) (before : List ℕ) (p : Place) (word : List ℕ) 
 
 -- signs that can be laid out: not too many, printed, within the sizes
 pub record Fillable (W P : ℕ) (signs : List ℕ) : Type 0 where
-  pub most : length signs ≤ 65536
+  pub most : length signs ≤ entrySigns * mostText
   pub wide : 1 ≤ W
-  pub narrow : W ≤ 60
+  pub narrow : W ≤ mostWidth
   pub page : 0 < P
   pub printed : (i : ℕ) → i < length signs → PrintedSign (getD signs i 0)
 

@@ -1,9 +1,12 @@
 // The pass of the place alone: sign by sign, without writing. It gives the place at the end of the text, and with it the bytes that are needed.
 
 ghost use mathlib.Core.Path.{_≡_};
-ghost use Prim.Native.Nat.{_<_, _≤_, _^_};
+ghost use Prim.Native.Nat.{_*_, _<_, _≤_, _^_};
 ghost use lib.ListN.{length};
+ghost use Rattle.table.specs.Numbers.{entrySigns};
 ghost use Rattle.table.specs.Search.{isThere};
+ghost use Rattle.translation.specs.Numbers.{mostText};
+ghost use Rattle.layout.specs.Numbers.{mostWidth};
 ghost use Rattle.layout.specs.Words.{formatOf, itemsOf};
 ghost use Rattle.layout.specs.Place.{volumeEnd};
 ghost use Rattle.layout.specs.Gather.{Modest, afterFlush, afterFormat, stepped};
@@ -41,7 +44,7 @@ pub(crate) fn format(p: Place, width: usize, page: usize, g: u8) -> Place
 
 // One sign.
 fn step(p: Place, n: usize, g: u8, width: usize, page: usize) -> Gathering
-    requires { ⌜ (Modest (2 ^ 31) p) × (n < 61) ⌝ }
+    requires { ⌜ (Modest (2 ^ 31) p) × (n ≤ mostWidth) ⌝ }
     ensures { λ r. ⌜ r ≡ stepped width page p n g ⌝ }
 {
     if g == 0 {
@@ -64,7 +67,7 @@ fn step(p: Place, n: usize, g: u8, width: usize, page: usize) -> Gathering
 
 // The place at the end of the text, for the signs of a text.
 pub(crate) fn measure(signs: &[u8], width: usize, page: usize) -> Place
-    requires { ⌜ (length (now signs) ≤ 65536) × (1 ≤ width) × (width ≤ 60) ⌝ }
+    requires { ⌜ (length (now signs) ≤ entrySigns * mostText) × (1 ≤ width) × (width ≤ mostWidth) ⌝ }
     ensures { λ r. ⌜ r ≡ volumeEnd width page (itemsOf width (now (signs .entry))) ⌝ }
 {
     let mut p = Place::first();

@@ -2,8 +2,11 @@
 // on, and everything else stays as it was.
 
 ghost use mathlib.Core.Path.{_≡_};
-ghost use Prim.Native.Nat.{_+_, _<_, _≤_, _^_};
+ghost use Prim.Native.Nat.{_+_, _*_, _<_, _≤_, _^_};
 ghost use lib.ListN.{length, replicate, take};
+ghost use Rattle.table.specs.Numbers.{entrySigns};
+ghost use Rattle.translation.specs.Numbers.{mostText};
+ghost use Rattle.layout.specs.Numbers.{mostWidth};
 ghost use Rattle.layout.specs.Words.{itemsOf};
 ghost use Rattle.layout.specs.Place.{afterLine, lineBytes, afterLineEnd, lineEndBytes, afterEmptyLine, emptyLineBytes, afterParagraph, paragraphBytes, afterPageEnd, pageEndBytes, cellsAfter, afterWord, wordBytes, volume};
 ghost use Rattle.layout.specs.Gather.{Modest, afterFlush, flushBytes, afterFormat, formatBytes, stepped, waiting, stepBytes};
@@ -99,7 +102,7 @@ fn put_page_end(out: &mut [u8], p: Place, page: usize) -> Place
 
 // A word: on a line with cells it joins if it fits, otherwise the line ends and it starts the next.
 fn put_word(out: &mut [u8], p: Place, cells: &[u8], width: usize, page: usize) -> Place
-    requires { ⌜ (Room (2 ^ 32) (now out) p (wordBytes width page p (now cells))) × (length (now cells) ≤ 60) ⌝ }
+    requires { ⌜ (Room (2 ^ 32) (now out) p (wordBytes width page p (now cells))) × (length (now cells) ≤ mostWidth) ⌝ }
     ensures { λ r. ⌜ Moved (now (out .entry)) p (wordBytes width page p (now (cells .entry))) (now (out .exit)) (afterWord width page p (length (now (cells .entry)))) r ⌝ }
 {
     let n = cells.len();
@@ -139,7 +142,7 @@ fn put_paragraph(out: &mut [u8], p: Place, page: usize) -> Place
 
 // The cells that wait are placed, if there are any.
 fn put_flush(out: &mut [u8], p: Place, cells: &[u8], width: usize, page: usize) -> Place
-    requires { ⌜ (Room (2 ^ 32) (now out) p (flushBytes width page p (now cells))) × (length (now cells) ≤ 60) ⌝ }
+    requires { ⌜ (Room (2 ^ 32) (now out) p (flushBytes width page p (now cells))) × (length (now cells) ≤ mostWidth) ⌝ }
     ensures { λ r. ⌜ Moved (now (out .entry)) p (flushBytes width page p (now (cells .entry))) (now (out .exit)) (afterFlush width page p (length (now (cells .entry)))) r ⌝ }
 {
     if 0 < cells.len() {
@@ -178,7 +181,7 @@ fn put_sign(
     width: usize,
     page: usize,
 ) -> Gathering
-    requires { ⌜ (Room (2 ^ 31) (now out) p (stepBytes width page p (take n (now word)) g)) × (n < width) × (width ≤ 60) × (width ≤ length (now word)) ⌝ }
+    requires { ⌜ (Room (2 ^ 31) (now out) p (stepBytes width page p (take n (now word)) g)) × (n < width) × (width ≤ mostWidth) × (width ≤ length (now word)) ⌝ }
     ensures { λ r. ⌜ Signed width page (now (out .entry)) p (now (word .entry)) n g (now (out .exit)) (now (word .exit)) r ⌝ }
 {
     if g == 0 {
@@ -201,7 +204,7 @@ fn put_sign(
 
 // All signs of a text are written, and the end of the text.
 pub(crate) fn write(signs: &[u8], width: usize, page: usize, out: &mut [u8])
-    requires { ⌜ (length (now signs) ≤ 65536) × (1 ≤ width) × (width ≤ 60) × (length (volume width page (itemsOf width (now signs))) ≤ length (now out)) ⌝ }
+    requires { ⌜ (length (now signs) ≤ entrySigns * mostText) × (1 ≤ width) × (width ≤ mostWidth) × (length (volume width page (itemsOf width (now signs))) ≤ length (now out)) ⌝ }
     ensures { λ _. ⌜ Put (now (out .entry)) 0 (volume width page (itemsOf width (now (signs .entry)))) (now (out .exit)) ⌝ }
 {
     let mut word = [0u8; 60];

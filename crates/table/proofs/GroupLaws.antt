@@ -2,7 +2,7 @@
 -- before r breaks the grouping, the walk back from r may stop at the first record q that shares less with r than r - 1 does: if a record j before q
 -- outdid r - 1, then j and r - 1 would agree in characters in which q, between them, doesn't, and r - 1 would break the grouping.
 use Prim.Native.Nat.{ℕ, suc, pred, _+_, _-_, _≤_, _<_}
-use mathlib.Core.Bool.{Bool, true, false, true≢false}
+use mathlib.Core.Bool.{Bool, true, false}
 use mathlib.Core.List.{List, [], _∷_}
 use mathlib.Core.Option.{Option, none, some}
 use mathlib.Core.Path.{_≡_, refl, sym, _∙_, ap, ap₂, subst}
@@ -19,6 +19,7 @@ use Rattle.table.specs.Verdict.{strings}
 use Rattle.table.specs.declared.Sections.{Sections}
 use Rattle.table.proofs.Search.{first-missing, first-is-not}
 use Rattle.table.proofs.Lists.{length-listOf, getD-listOf}
+use Rattle.table.proofs.Tests.{clash}
 use Rattle.table.proofs.Grouping.{agree-within-agreement, agreement-of-agree, agree-sym, agree-trans, agreed, none-breaks}
 
 -- ---- Agreement, character by character
@@ -66,7 +67,7 @@ module _ (strings : List (List ℕ)) (r : ℕ) where
   breaks-by q l more = go (first outdoes r) refl
     where
       go : (o : Option ℕ) → first outdoes r ≡ o → isThere o ≡ true
-      go none e = absurd (true≢false (sym (lt-ltb _ _ more) ∙ first-missing outdoes 0 r e q (omega arith) (omega arith)))
+      go none e = absurd (clash (lt-ltb _ _ more) (first-missing outdoes 0 r e q (omega arith) (omega arith)))
       go (some k) e = refl
 
   -- none does

@@ -1,9 +1,9 @@
 -- What the readers answer is what the table's lists hold, for the layers above: an accepted image's records lie within it, so each element of a list is its
 -- record as it is read.
-use Prim.Native.Nat.{ℕ, zero, suc, _+_, _≤_, _<_}
+use Prim.Native.Nat.{ℕ, _+_, _≤_, _<_}
 use mathlib.Core.Bool.{true}
-use mathlib.Core.List.{List, [], _∷_}
-use mathlib.Core.Path.{_≡_, refl, sym, _∙_, ap}
+use mathlib.Core.List.{List}
+use mathlib.Core.Path.{_≡_, sym, _∙_, ap}
 use native.Mathlib.Omega.{arith}
 use lib.ListN.{length, getD, drop, length-drop}
 use lib.Seq.{length-take-le, getD-take, getD-drop}
@@ -31,16 +31,12 @@ use Rattle.table.specs.Laid.{SectionsLaid}
 use Rattle.table.specs.declared.Section.{Section}
 use Rattle.table.specs.declared.Sections.{Sections}
 use Rattle.table.specs.declared.Verdict.the-variants.{Accepted}
-use Rattle.table.proofs.Lists.{length-listOf, getD-listOf}
+use Rattle.table.proofs.Lists.{length-listOf, getD-listOf, getD-there}
 use Rattle.table.proofs.Frame.{frame-right, sections-framed}
 use Rattle.table.proofs.Laid.{sections-laid}
 use Rattle.table.proofs.Refusals.{accepted}
 
 -- ---- The lists of a table hold the records of its image: so many, and each at its place
-
-pub table-located : (image : List ℕ) → tableOf image ≡ tableIn image (sectionsOf image)
-unfolding tableOf
-table-located image = refl
 
 module _ (image : List ℕ) (s : Sections) where
   pub letters-long : length (tableIn image s .letters) ≡ s .alphabet .records
@@ -85,12 +81,6 @@ module _ (image : List ℕ) (s : Sections) where
 
 -- ---- A part of a record that lies within the image
 
--- past no end, what stands for a missing element doesn't matter
-getD-there : (xs : List ℕ) (i d e : ℕ) → i < length xs → getD xs i d ≡ getD xs i e
-getD-there [] i d e l = absurd (omega arith)
-getD-there (x ∷ xs) zero d e l = refl
-getD-there (x ∷ xs) (suc i) d e l = getD-there xs i d e (omega arith)
-
 module _ (image : List ℕ) (section : Section) (k j n : ℕ) (inside : offset section k + j + n ≤ length image) where
   pub part-long : length (recordPart image section k j n) ≡ n
   unfolding recordPart bytesFrom
@@ -111,28 +101,6 @@ module _ (image : List ℕ) (section : Section) (k j n : ℕ) (inside : offset s
 -- how many characters a contraction record says that its string has
 abbrev pub stringLength : List ℕ → Sections → ℕ → ℕ
 stringLength image s k = recordByte image (s .contractions) k lengthByte
-
--- ---- The parts of records that are read lie within the image, where its sections are laid and its records right
-
-module _ (image : List ℕ) (s : Sections) (laid : SectionsLaid image s) (right : RecordsRight image s) where
-  pub string-inside : (k : ℕ) → k < s .contractions .records → offset (s .contractions) k + stringByte + stringLength image s k ≤ length image
-  unfolding sectionNamed
-  string-inside k l = let lies = laid .contractions-laid .lies k l in let short = right contractions k l .length-right in omega arith
-
-  pub signs-inside : (k : ℕ) → k < s .contractions .records → offset (s .contractions) k + signsByte + entrySigns ≤ length image
-  signs-inside k l = let lies = laid .contractions-laid .lies k l in omega arith
-
-  pub context-inside : (k : ℕ) → k < s .contexts .records → offset (s .contexts) k + 0 + contextSize ≤ length image
-  context-inside k l = let lies = laid .contexts-laid .lies k l in omega arith
-
-  pub transition-inside : (k : ℕ) → k < s .transitions .records → offset (s .transitions) k + 0 + s .classes ≤ length image
-  transition-inside k l = let lies = laid .transitions-laid .lies k l in omega arith
-
-  pub classes-inside : (k : ℕ) → k < s .decisions .records → offset (s .decisions) k + 0 + s .classes ≤ length image
-  classes-inside k l = let lies = laid .decisions-laid .lies k l in omega arith
-
-  pub variables-inside : (k : ℕ) → k < s .decisions .records → offset (s .decisions) k + s .classes + s .variables ≤ length image
-  variables-inside k l = let lies = laid .decisions-laid .lies k l in omega arith
 
 -- ---- What the readers answer of a record
 
@@ -164,6 +132,32 @@ columnRead image s k =
       byClass = partWithin image (s .decisions) k 0 (s .classes);
       conditions = partWithin image (s .decisions) k (s .classes) (s .variables);
     }
+
+-- ---- The parts of records that are read lie within the image, where its sections are laid and its records right
+
+module _ (image : List ℕ) (s : Sections) (laid : SectionsLaid image s) (right : RecordsRight image s) where
+  pub string-inside : (k : ℕ) → k < s .contractions .records → offset (s .contractions) k + stringByte + stringLength image s k ≤ length image
+  unfolding sectionNamed
+  string-inside k l = let lies = laid .contractions-laid .lies k l in let short = right contractions k l .length-right in omega arith
+
+  pub signs-inside : (k : ℕ) → k < s .contractions .records → offset (s .contractions) k + signsByte + entrySigns ≤ length image
+  signs-inside k l = let lies = laid .contractions-laid .lies k l in omega arith
+
+  pub context-inside : (k : ℕ) → k < s .contexts .records → offset (s .contexts) k + 0 + contextSize ≤ length image
+  context-inside k l = let lies = laid .contexts-laid .lies k l in omega arith
+
+  pub context-within : (k : ℕ) (d : List ℕ) → k < s .contexts .records → getD (tableIn image s .contexts) k d ≡ contextRead image s k
+  unfolding contextAt
+  context-within k d l = context-at image s k d l ∙ sym (part-within image (s .contexts) k 0 contextSize (context-inside k l))
+
+  pub transition-inside : (k : ℕ) → k < s .transitions .records → offset (s .transitions) k + 0 + s .classes ≤ length image
+  transition-inside k l = let lies = laid .transitions-laid .lies k l in omega arith
+
+  pub classes-inside : (k : ℕ) → k < s .decisions .records → offset (s .decisions) k + 0 + s .classes ≤ length image
+  classes-inside k l = let lies = laid .decisions-laid .lies k l in omega arith
+
+  pub variables-inside : (k : ℕ) → k < s .decisions .records → offset (s .decisions) k + s .classes + s .variables ≤ length image
+  variables-inside k l = let lies = laid .decisions-laid .lies k l in omega arith
 
 -- ---- An accepted image
 
@@ -198,9 +192,8 @@ module _ (image : List ℕ) (accepts : verdictOf image ≡ Accepted) where
       )
 
   pub context-read : (k : ℕ) (d : List ℕ) → k < s .contexts .records → getD (tableOf image .contexts) k d ≡ contextRead image s k
-  unfolding tableOf contextAt
-  context-read k d l =
-      context-at image s k d l ∙ sym (part-within image (s .contexts) k 0 contextSize (context-inside image s accepted-laid accepted-right k l))
+  unfolding tableOf
+  context-read k d l = context-within image s accepted-laid accepted-right k d l
 
   pub transition-read : (k : ℕ) (d : List ℕ) → k < s .transitions .records → getD (tableOf image .transitions) k d ≡ transitionRead image s k
   unfolding tableOf transitionAt

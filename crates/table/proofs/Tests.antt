@@ -12,6 +12,10 @@ use Rattle.table.specs.Search.{within, first, isThere, every}
 use Rattle.table.specs.Refusals.{Between}
 use Rattle.table.proofs.Search.{first-found, first-missing}
 
+-- no test passes and fails
+pub clash : {test : Bool} → test ≡ true → test ≡ false → ⊥
+clash passes fails = true≢false (sym passes ∙ fails)
+
 -- the test passes just where the fact holds
 abbrev pub Tells : Bool → Type 0 → Type 0
 Tells test Fact = (test ≡ true) ↔ Fact
@@ -24,10 +28,10 @@ module _ {test : Bool} {Fact : Type 0} (tells : Tells test Fact) where
     where
       go : (t : Bool) → test ≡ t → Dec Fact
       go true e = yes (tells .0 e)
-      go false e = no (λ h. true≢false (sym (tells .1 h) ∙ e))
+      go false e = no (λ h. clash (tells .1 h) e)
 
   pub fails-law : (test ≡ false) ↔ (Fact → ⊥)
-  fails-law = (λ e h. true≢false (sym (tells .1 h) ∙ e), go test refl)
+  fails-law = (λ e h. clash (tells .1 h) e, go test refl)
     where
       go : (t : Bool) → test ≡ t → (Fact → ⊥) → test ≡ false
       go true e h = absurd (h (tells .0 e))
@@ -88,10 +92,10 @@ every-law test n = go (first (λ k. not (test k)) n) refl
     go none e = (λ _ k l. not-false _ (first-missing (λ k. not (test k)) 0 n e k (omega arith) (omega arith)), λ _. refl)
     go (some k) e =
         let f = first-found (λ k. not (test k)) 0 n k e in
-        (λ t. absurd (false≢true t), λ h. absurd (true≢false (sym (h k (omega arith)) ∙ not-true _ (f .passes))))
+        (λ t. absurd (false≢true t), λ h. absurd (clash (h k (omega arith)) (not-true _ (f .passes))))
 
 pub every-fails : (test : ℕ → Bool) (n k : ℕ) → k < n → test k ≡ false → every test n ≡ false
-every-fails test n k l e = fails-law (every-law test n) .1 (λ h. true≢false (sym (h k l) ∙ e))
+every-fails test n k l e = fails-law (every-law test n) .1 (λ h. clash (h k l) e)
 
 pub every-same : (f g : ℕ → Bool) (n : ℕ) → ((k : ℕ) → k < n → f k ≡ g k) → every f n ≡ every g n
 every-same f g n same =

@@ -1,6 +1,7 @@
 pub mod Cells
 pub mod Numbers
 pub mod Search
+pub mod Lists
 pub mod Sections
 pub mod Records
 pub mod Table

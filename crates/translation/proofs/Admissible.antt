@@ -11,6 +11,8 @@ use borrow.Author.Tests.{eqb-true, eqb-false, eq-eqb, ne-eqb, not-true}
 use Rattle.table.specs.Numbers.{noContext, accepts, rejects, byteYes, byteNo, dash}
 use Rattle.table.specs.Search.{member}
 use Rattle.table.specs.Table.{Table, Entry, Column}
+use Rattle.table.proofs.Lists.{member-stands, member-at}
+use Rattle.table.proofs.Tests.{clash, every-law}
 use Rattle.translation.specs.Decide.{States, state, byteOfClass, conditionHolds, conditionsHold, Ruling, accept, reject, next, ruling, decided}
 use Rattle.translation.specs.Choose.{begins, classAfter, contextHolds, admissible}
 use Rattle.translation.specs.Admissible.{
@@ -28,7 +30,6 @@ use Rattle.translation.specs.Admissible.{
   Admissible,
 }
 use Rattle.translation.specs.declared.Setting.{Setting}
-use Rattle.translation.proofs.Lists.{clash, all-of-every, every-of-all, place-of-member, member-of-place}
 
 -- ---- The whole string begins the rest
 
@@ -62,11 +63,11 @@ context-true contexts n c t = go (eqb n noContext) refl t
   where
     go : (b : Bool) → eqb n noContext ≡ b → b || member c (getD contexts (pred n) []) ≡ true → ContextAllows contexts n c
     go true e t = no-context (eqb-true n noContext e)
-    go false e t = let s = place-of-member c (getD contexts (pred n) []) t in holds-class (s .at) (s .there) (s .same)
+    go false e t = let s = member-stands c (getD contexts (pred n) []) t in holds-class (s .at) (s .there) (s .same)
 
 context-of : (contexts : List (List ℕ)) (n c : ℕ) → ContextAllows contexts n c → eqb n noContext || member c (getD contexts (pred n) []) ≡ true
 context-of contexts n c (no-context h) = rw h
-context-of contexts n c (holds-class i l h) = go (eqb n noContext) (member-of-place c (getD contexts (pred n) []) i l h)
+context-of contexts n c (holds-class i l h) = go (eqb n noContext) (member-at c (getD contexts (pred n) []) i l h)
   where
     go : (b : Bool) → member c (getD contexts (pred n) []) ≡ true → b || member c (getD contexts (pred n) []) ≡ true
     go true m = refl
@@ -95,12 +96,12 @@ conditions-true : (column : Column) (states : States) → conditionsHold column 
 unfolding conditionsHold
 conditions-true column states t v l =
     condition-true (getD (column .conditions) v dash) (state states v)
-    (all-of-every (λ v. conditionHolds (getD (column .conditions) v dash) (state states v)) (length (column .conditions)) t v l)
+    (every-law (λ v. conditionHolds (getD (column .conditions) v dash) (state states v)) (length (column .conditions)) .0 t v l)
 
 conditions-of : (column : Column) (states : States) → ConditionsMet column states → conditionsHold column states ≡ true
 unfolding conditionsHold
 conditions-of column states met =
-    every-of-all (λ v. conditionHolds (getD (column .conditions) v dash) (state states v)) (length (column .conditions))
+    every-law (λ v. conditionHolds (getD (column .conditions) v dash) (state states v)) (length (column .conditions)) .1
     (λ v l. condition-of (getD (column .conditions) v dash) (state states v) (met v l))
 
 conditions-unmet : (column : Column) (states : States) → (ConditionsMet column states → ⊥) → conditionsHold column states ≡ false

@@ -10,6 +10,7 @@ use lib.ListN.{length, length-append}
 use lib.Seq.{length-take-le}
 use Rattle.table.specs.Table.{Table}
 use Rattle.table.proofs.Search.{first-found, first-missing}
+use Rattle.table.proofs.Tests.{clash}
 use Rattle.translation.specs.Decide.{States}
 use Rattle.translation.specs.Choose.{admissible, choice, entry}
 use Rattle.translation.specs.Pieces.{Piece, characters, pieceBy, frontPiece, piecesIn}
@@ -17,7 +18,6 @@ use Rattle.translation.specs.Sound.{Sound}
 use Rattle.translation.specs.Admissible.{Admissible}
 use Rattle.translation.specs.Chosen.{pieceIn, ByEntry, Chosen}
 use Rattle.translation.specs.declared.Setting.{Setting}
-use Rattle.translation.proofs.Lists.{clash}
 use Rattle.translation.proofs.Admissible.{admissible-as-written}
 use Rattle.translation.proofs.Pieces.{piece-at-front}
 

@@ -3,10 +3,10 @@ use Prim.Native.Nat.{ℕ, pred, _-_, _<_}
 use mathlib.Core.Bool.{Bool, true, false, _&&_}
 use mathlib.Core.List.{List, []}
 use mathlib.Core.Logic.{_≢_, inl, inr}
-use mathlib.Core.Path.{_≡_, refl, sym, _∙_}
+use mathlib.Core.Path.{_≡_, refl}
 use native.Mathlib.Numerals.{sub-one}
 use native.Mathlib.Omega.{arith}
-use lib.ListN.{length, getD}
+use lib.ListN.{length}
 use borrow.Author.Tests.{eq-eqb, ne-eqb}
 use Rattle.table.specs.Numbers.{lengthByte, stringByte, contextByte, signsByte, entrySigns, leastShift, noContext, contextSize}
 use Rattle.table.specs.Search.{member}
@@ -14,9 +14,9 @@ use Rattle.table.specs.Records.{contractions, sectionNamed}
 use Rattle.table.specs.Sections.{recordByte}
 use Rattle.table.specs.Promises.{partWithin}
 use Rattle.table.specs.Refusals.{Between, ContextExists, RightEntry}
-use Rattle.table.specs.Table.{tableIn, entryAt, contextAt}
+use Rattle.table.specs.Table.{tableIn, entryAt}
 use Rattle.table.specs.declared.Sections.{Sections}
-use Rattle.table.proofs.Reading.{part-long, part-within, entry-at, context-at, string-inside, signs-inside, context-inside}
+use Rattle.table.proofs.Reading.{part-long, part-within, entry-at, string-inside, signs-inside, context-within}
 use Rattle.translation.specs.Decide.{States, decided}
 use Rattle.translation.specs.Choose.{begins, classAfter, contextHolds, admissible, noEntry, entry}
 use Rattle.translation.specs.Opened.{Opened}
@@ -66,18 +66,18 @@ module _ (image : List ℕ) (s : Sections) (opened : Opened image s) (k : ℕ) (
   unfolding entryAt
   context-is = refl
 
-  context-read : (n : ℕ) → n < s .contexts .records → getD (tableIn image s .contexts) n [] ≡ partWithin image (s .contexts) n 0 contextSize
-  unfolding contextAt
-  context-read n l =
-      context-at image s n [] l
-      ∙ sym (part-within image (s .contexts) n 0 contextSize (context-inside image s (opened .laid) (opened .right) n l))
-
   pub context-holds-by : (setting : Setting) (rest : List ℕ) → byte contextByte ≢ noContext
       → contextHolds (tableIn image s) setting rest (entryAt image s k)
       ≡ member (classAfter (tableIn image s) setting rest (byte lengthByte)) (partWithin image (s .contexts) (byte contextByte - 1) 0 contextSize)
   unfolding contextHolds
   context-holds-by setting rest n =
-      rw (context-is, ne-eqb (byte contextByte) noContext n, string-long, sub-one, context-read (pred (byte contextByte)) (context-there n))
+      rw (
+        context-is,
+        ne-eqb (byte contextByte) noContext n,
+        string-long,
+        sub-one,
+        context-within image s (opened .laid) (opened .right) (pred (byte contextByte)) [] (context-there n),
+      )
 
   -- ---- Admissible, one test after the other
 

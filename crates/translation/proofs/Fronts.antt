@@ -13,6 +13,8 @@ use Rattle.table.specs.Table.{Entry, tableIn, entryAt}
 use Rattle.table.specs.declared.Sections.{Sections}
 use Rattle.table.proofs.Search.{FirstOf, first-found}
 use Rattle.table.proofs.Reading.{entries-long, entry-at}
+use Rattle.table.proofs.Lists.{getD-there}
+use Rattle.table.proofs.Tests.{clash}
 use Rattle.translation.specs.Letters.{letterFor}
 use Rattle.translation.specs.Decide.{States}
 use Rattle.translation.specs.Choose.{admissible, noEntry, entry, choice}
@@ -21,7 +23,6 @@ use Rattle.translation.specs.Opened.{Opened}
 use Rattle.translation.specs.Inside.{MadeByEntry, MadeByLetter, MadeAs}
 use Rattle.translation.specs.declared.Setting.{Setting}
 use Rattle.translation.specs.declared.piecing.Piece.{Piece as MadePiece}
-use Rattle.translation.proofs.Lists.{clash, getD-there}
 use Rattle.translation.proofs.Entries.{shift-right, signs-long, not-begun}
 use Rattle.translation.proofs.Rests.{begins-shorter}
 use Rattle.translation.proofs.Signs.{printed-at-most}

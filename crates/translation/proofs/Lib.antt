@@ -1,5 +1,4 @@
 pub mod Example
-pub mod Lists
 pub mod Loops
 pub mod Records
 pub mod Entries

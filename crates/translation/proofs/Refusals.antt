@@ -13,12 +13,12 @@ use Rattle.table.specs.Numbers.{bar}
 use Rattle.table.specs.Search.{isThere}
 use Rattle.table.specs.Table.{Letter, Table}
 use Rattle.table.proofs.Search.{first-found, first-missing, first-is, first-is-not}
+use Rattle.table.proofs.Tests.{clash}
 use Rattle.translation.specs.Numbers.{lineFeed}
 use Rattle.translation.specs.Collapse.{unfed}
 use Rattle.translation.specs.Letters.{letter, letterOf, isUnknown, firstUnknown}
 use Rattle.translation.specs.Refusals.{HasLetter, UnknownAt, FirstUnknownAt}
 use Rattle.translation.specs.Sound.{Sound}
-use Rattle.translation.proofs.Lists.{clash}
 
 module _ (letters : List Letter) where
   abbrev has : ℕ → ℕ → Bool

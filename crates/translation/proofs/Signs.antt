@@ -12,6 +12,8 @@ use borrow.Author.Tests.{eqb-false}
 use Rattle.table.specs.Numbers.{blankCell, otherBlank, noCell, entrySigns}
 use Rattle.table.specs.Table.{Table, Letter}
 use Rattle.table.proofs.Search.{first-found}
+use Rattle.table.specs.Lists.{All, empty, _and_}
+use Rattle.table.proofs.Lists.{all-at, all-of-places, all-append}
 use Rattle.translation.specs.Letters.{noLetter, letter, letterOf, letterFor}
 use Rattle.translation.specs.Choose.{entry}
 use Rattle.translation.specs.Pieces.{Piece, piecesIn, printed, signsOf}
@@ -19,7 +21,6 @@ use Rattle.translation.specs.Signs.{LetterSign, cell-or-blank, no-cell, 
 use Rattle.translation.specs.Sound.{Sound}
 use Rattle.translation.specs.Chosen.{noPiece, pieceIn}
 use Rattle.translation.specs.declared.Setting.{Setting}
-use Rattle.translation.proofs.Lists.{All, all-nil, all-cons, all-at, all-of-places, all-append}
 use Rattle.translation.proofs.Chosen.{first-in-order}
 
 -- ---- Printing
@@ -36,13 +37,13 @@ one-printed g right here = go (eqb g otherBlank) refl right
 
 all-printed : {signs : List ℕ} → All EntrySign signs → All PrintedSign (printed signs)
 unfolding printed
-all-printed all-nil = all-nil
-all-printed (all-cons {x = g} {xs = signs} r rs) = go (eqb g noCell) refl (all-printed rs)
+all-printed empty = empty
+all-printed (_and_ {x = g} {xs = signs} r rs) = go (eqb g noCell) refl (all-printed rs)
   where
     go : (b : Bool) → eqb g noCell ≡ b → All PrintedSign (printed signs)
         → All PrintedSign (elim b [ true ↦ printed signs | false ↦ cond (eqb g otherBlank) blankCell g ∷ printed signs ])
     go true e ps = ps
-    go false e ps = all-cons (one-printed g r (eqb-false g noCell e)) ps
+    go false e ps = one-printed g r (eqb-false g noCell e) and ps
 
 pub printed-at-most : (signs : List ℕ) → length (printed signs) ≤ length signs
 unfolding printed
@@ -90,7 +91,7 @@ module _ (table : Table) (sound : Sound table) where
       go none e =
           let b = first-in-order table setting text i l .by-letter e in
           let n = ap length (b .sign) in
-          record { at-most-four = omega arith; right = rw (b .sign) (all-cons (as-letter (letter-sign (b .front))) all-nil) }
+          record { at-most-four = omega arith; right = rw (b .sign) (as-letter (letter-sign (b .front)) and empty) }
       go (some k) e =
           let b = first-in-order table setting text i l .by-entry k e in
           let s = sound .entries k (b .there) in
@@ -108,8 +109,8 @@ module _ (table : Table) (sound : Sound table) where
   signs-printed setting text i l = all-at (all-signs (all-right setting text)) i 0 l
     where
       all-signs : {ps : List Piece} → All RightSigns ps → All PrintedSign (signsOf ps)
-      all-signs all-nil = all-nil
-      all-signs (all-cons r rs) = all-append (all-printed (r .right)) (all-signs rs)
+      all-signs empty = empty
+      all-signs (r and rs) = all-append (all-printed (r .right)) (all-signs rs)
 
   pub signs-at-most : (setting : Setting) (text : List ℕ)
       → length (signsOf (piecesIn table setting text)) ≤ entrySigns * length (piecesIn table setting text)
@@ -117,8 +118,8 @@ module _ (table : Table) (sound : Sound table) where
   signs-at-most setting text = go (all-right setting text)
     where
       go : {ps : List Piece} → All RightSigns ps → length (signsOf ps) ≤ entrySigns * length ps
-      go all-nil = omega arith
-      go (all-cons {x = p} {xs = ps} r rs) =
+      go empty = omega arith
+      go (_and_ {x = p} {xs = ps} r rs) =
           let h = printed-at-most (p .signs) in
           let k = go rs in
           rw (length-append (printed (p .signs)) (signsOf ps)) (omega arith)

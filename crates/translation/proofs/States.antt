@@ -7,12 +7,12 @@ use mathlib.Core.Path.{_≡_, refl, _∙_, ap}
 use lib.ListN.{length, getD, replicate}
 use Rattle.table.specs.Numbers.{turnNo, turnYes, turnOther, dash}
 use Rattle.table.specs.Table.{Table}
+use Rattle.table.proofs.Lists.{getD-listOf}
 use Rattle.translation.specs.Decide.{States, state, startStates, byteOfClass, turned, moved}
 use Rattle.translation.specs.Pieces.{piecesIn}
 use Rattle.translation.specs.Chosen.{pieceIn}
 use Rattle.translation.specs.Moved.{Turned}
 use Rattle.translation.specs.declared.Setting.{Setting}
-use Rattle.translation.proofs.Lists.{getD-listOf}
 use Rattle.translation.proofs.Pieces.{first-piece, next-piece}
 
 -- ---- The start

@@ -1,6 +1,6 @@
 -- `layout::Place::cells` meets its contract: it is the definition, and its sums are far from overflow.
 use borrow.Author.Needs.{needs}
-use mathlib.Core.Path.{_≡_, refl, sym, _∙_, ap}
+use mathlib.Core.Path.{refl}
 use Rattle.layout.specs.Place.{afterCells}
 use Rattle.layout.proofs.Place.cells.Statement.{statement}
 use Rattle.layout.proofs.Place.cells.Tie as tie

@@ -1,7 +1,7 @@
 -- `layout::Place::empty_line` meets its contract: by whether the page has a line once the line has ended.
 use borrow.Author.Needs.{needs}
-use Prim.Native.Nat.{ℕ, _+_, _^_, _≤_, _<_}
-use mathlib.Core.Path.{_≡_, refl, sym, _∙_, ap}
+use Prim.Native.Nat.{_^_, _<_}
+use mathlib.Core.Path.{_≡_, sym, _∙_, ap}
 use native.Mathlib.Omega.{arith}
 use Rattle.layout.specs.Place.{afterLine, afterLineEnd}
 use Rattle.layout.specs.declared.Place.{Place}

@@ -1,6 +1,6 @@
 -- `layout::Place::line_done` meets its contract: by whether one more line fills the page.
 use borrow.Author.Needs.{needs}
-use mathlib.Core.Path.{_≡_, refl, sym, _∙_, ap}
+use mathlib.Core.Path.{sym}
 use Prim.Native.Nat.{_+_}
 use borrow.Author.Tests.{ne-eqb}
 use Rattle.layout.specs.Place.{afterLine, fillsPage}

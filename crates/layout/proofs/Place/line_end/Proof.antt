@@ -1,6 +1,6 @@
 -- `layout::Place::line_end` meets its contract: by whether the line holds a cell.
 use borrow.Author.Needs.{needs}
-use mathlib.Core.Path.{_≡_, refl, sym, _∙_, ap}
+use mathlib.Core.Path.{sym, _∙_}
 use native.Mathlib.Omega.{arith}
 use Rattle.layout.proofs.Moves as Moves
 use Rattle.layout.proofs.Place.line_end.Statement.{statement}

@@ -1,7 +1,7 @@
 -- `layout::Place::word` meets its contract: on an empty line, joining, or on the next line, as the laws of the moves have it.
 use borrow.Author.Needs.{needs}
-use Prim.Native.Nat.{ℕ, _+_, _^_, _≤_, _<_}
-use mathlib.Core.Path.{_≡_, refl, sym, _∙_, ap}
+use Prim.Native.Nat.{ℕ, _^_, _<_}
+use mathlib.Core.Path.{sym, _∙_, ap}
 use native.Mathlib.Omega.{arith}
 use Rattle.layout.specs.Place.{afterCells, openingBlanks}
 use Rattle.layout.specs.declared.Place.{Place}

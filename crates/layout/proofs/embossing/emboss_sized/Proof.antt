@@ -1,7 +1,7 @@
 -- `layout::embossing::emboss_sized` meets its contract: each answer of the translation is a case of the whole call, and where it is done the signs at the
 -- front of the local buffer are laid out.
 use borrow.Author.Needs.{needs}
-use mathlib.Core.Path.{sym, _∙_}
+use mathlib.Core.Path.{sym}
 use lib.Seq.{length-take-le}
 use Rattle.layout.proofs.WholeCall.{whole-translated}
 use Rattle.layout.proofs.embossing.emboss_sized.Statement.{statement}

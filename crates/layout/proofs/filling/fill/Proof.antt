@@ -2,21 +2,16 @@
 use borrow.Author.Needs.{needs}
 use Prim.Native.Nat.{ℕ, _+_, _≤_, _<_}
 use mathlib.Core.List.{List, _++_}
-use mathlib.Core.Path.{_≡_, refl, sym, _∙_, ap, subst}
+use mathlib.Core.Path.{_≡_, _∙_, ap}
 use native.Mathlib.Omega.{arith}
 use lib.ListN.{length, drop}
 use lib.Seq.{sets, sets-eq}
 use borrow.Author.Tests.{le-leb, lt-leb}
-use Rattle.layout.specs.Numbers.{lineMark, pageMark}
 use Rattle.layout.specs.Words.{Item, itemsOf}
-use Rattle.layout.specs.Place.{volume, volumeEnd}
-use Rattle.layout.specs.Pages.{count}
+use Rattle.layout.specs.Place.{volume}
 use Rattle.layout.specs.Emboss.{roomed, done, refused}
 use Rattle.layout.specs.Fitting.{Fitting}
-use Rattle.layout.specs.Writing.{Fillable}
 use Rattle.layout.specs.declared.Place.{Place}
-use Rattle.layout.specs.declared.Answer.{Answer}
-use Rattle.layout.specs.declared.Answer.the-variants.{Done, Room}
 use Rattle.layout.proofs.Counts as Counts
 use Rattle.layout.proofs.Words.{items-fit}
 use Rattle.layout.proofs.filling.fill.Statement.{statement}

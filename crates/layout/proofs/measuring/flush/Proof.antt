@@ -1,7 +1,7 @@
 -- `layout::measuring::flush` meets its contract: by whether cells wait.
 use borrow.Author.Needs.{needs}
-use mathlib.Core.Path.{_≡_, refl, sym, _∙_, ap, subst}
-use borrow.Author.Tests.{lt-ltb, le-ltb, eq-eqb, ne-eqb}
+use mathlib.Core.Path.{_∙_}
+use borrow.Author.Tests.{lt-ltb, le-ltb}
 use Rattle.layout.specs.Gather.{afterFlush}
 use Rattle.layout.proofs.measuring.flush.Statement.{statement}
 use Rattle.layout.proofs.measuring.flush.Tie as tie

@@ -1,8 +1,8 @@
 -- `layout::measuring::format` meets its contract: each format sign is its own move, and any other sign is none.
 use borrow.Author.Needs.{needs}
-use Prim.Native.Nat.{ℕ, _+_, _^_, _≤_, _<_}
-use mathlib.Core.Path.{_≡_, refl, sym, _∙_, ap, subst}
-use borrow.Author.Tests.{lt-ltb, le-ltb, eq-eqb, ne-eqb}
+use Prim.Native.Nat.{ℕ}
+use mathlib.Core.Path.{sym, _∙_, ap}
+use borrow.Author.Tests.{ne-eqb}
 use Rattle.layout.specs.Words.{formatOf}
 use Rattle.layout.specs.Place.{afterItem}
 use Rattle.layout.specs.Gather.{afterFormat}

@@ -1,13 +1,11 @@
 -- `layout::measuring::measure` meets its contract. The loop's invariant: some cells wait, fewer than the width, and what is left to do from here with them
 -- ends where the whole ends. A sign adds at most 70 to each number of the place.
-use Prim.Native.Nat.{ℕ, zero, suc, _+_, _*_, _-_, _^_, _≤_, _<_}
-use mathlib.Core.List.{List, [], _∷_}
-use mathlib.Core.Path.{_≡_, refl, sym, _∙_, ap, subst}
+use Prim.Native.Nat.{ℕ, _+_, _*_, _-_, _^_, _≤_, _<_}
+use mathlib.Core.List.{List, []}
+use mathlib.Core.Path.{_≡_, refl, sym, _∙_, ap}
 use native.Mathlib.Omega.{arith}
 use borrow.Author.Needs.{needs}
-use native.Mathlib.Numerals.{add-one}
 use lib.ListN.{length, getD, drop, drop-of-length-le}
-use lib.Seq.{drop-cons}
 use Rattle.layout.specs.Words.{itemsOf, wordsOf}
 use Rattle.layout.specs.Place.{afterPageEnd, volumeEnd}
 use Rattle.layout.specs.Gather.{Modest, afterFlush, stepped, waiting, afterRest}

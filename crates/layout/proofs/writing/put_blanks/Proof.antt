@@ -1,11 +1,10 @@
 -- `layout::writing::put_blanks` meets its contract. The loop's invariant: the first j blanks are stored.
-use Prim.Native.Nat.{ℕ, zero, suc, _+_, _*_, _-_, _^_, _≤_, _<_}
-use mathlib.Core.Path.{_≡_, refl, sym, _∙_, ap, subst}
+use Prim.Native.Nat.{ℕ, _+_, _-_, _≤_}
+use mathlib.Core.Path.{_≡_, refl, _∙_, ap}
 use native.Mathlib.Omega.{arith}
-use lib.ListN.{length, getD, set, take, drop, replicate, length-set}
-use lib.Seq.{sets, length-sets, take-all}
-use Rattle.layout.specs.Writing.{Put}
-use Rattle.layout.proofs.Sets.{sets-append, run-more, blank-more}
+use lib.ListN.{length, set, replicate, length-set}
+use lib.Seq.{sets}
+use Rattle.layout.proofs.Sets.{blank-more}
 use mathlib.Core.List.{List}
 use Rattle.layout.proofs.writing.put_blanks.Statement.{statement}
 use Rattle.layout.proofs.writing.put_blanks.Tie as tie

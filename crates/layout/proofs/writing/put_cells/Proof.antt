@@ -1,17 +1,9 @@
 -- `layout::writing::put_cells` meets its contract: one run after the other.
 use borrow.Author.Needs.{needs}
-use Prim.Native.Nat.{ℕ, suc, _+_, _^_, _≤_, _<_}
-use mathlib.Core.List.{List, [], _∷_, _++_}
-use mathlib.Core.Path.{_≡_, refl, sym, _∙_, ap, subst}
-use native.Mathlib.Numerals.{add-one}
-use native.Mathlib.Omega.{arith}
-use lib.ListN.{length, set, length-set, length-append}
-use lib.Seq.{sets, length-sets}
-use Rattle.layout.specs.Place.{afterLine, lineBytes, afterLineEnd, lineEndBytes, afterEmptyLine, emptyLineBytes, afterPage, afterPageEnd, pageEndBytes, openingBlanks, afterCells, cellsAfter, afterWord, wordBytes}
-use Rattle.layout.specs.declared.Place.{Place}
-use Rattle.layout.proofs.Moves as Moves
-use Rattle.layout.proofs.Bytes as Bytes
-use Rattle.layout.proofs.Sets.{sets-append, put-then}
+use Prim.Native.Nat.{ℕ, _+_}
+use mathlib.Core.Path.{sym, ap}
+use Rattle.layout.specs.Place.{cellsAfter}
+use Rattle.layout.proofs.Sets.{put-then}
 use lib.ListN.{replicate, length-replicate}
 use Rattle.layout.proofs.writing.put_cells.Statement.{statement}
 use Rattle.layout.proofs.writing.put_cells.Tie as tie

@@ -1,18 +1,17 @@
 -- `layout::writing::put_empty_line` meets its contract: the bytes of sign 70, and then those of a line where the page has one.
 use borrow.Author.Needs.{needs}
-use Prim.Native.Nat.{ℕ, suc, _+_, _^_, _≤_, _<_}
-use mathlib.Core.List.{List, [], _∷_, _++_}
+use Prim.Native.Nat.{ℕ, _+_, _^_, _≤_, _<_}
+use mathlib.Core.List.{List, []}
 use mathlib.Core.Bool.{cond}
-use mathlib.Core.Path.{_≡_, refl, sym, _∙_, ap, subst}
-use native.Mathlib.Numerals.{add-one}
+use mathlib.Core.Path.{_≡_, sym, _∙_, ap}
 use native.Mathlib.Omega.{arith}
-use lib.ListN.{length, set, length-set, length-append}
+use lib.ListN.{length, length-append}
 use lib.Seq.{sets, length-sets}
-use Rattle.layout.specs.Place.{hasLine, afterLine, lineBytes, afterLineEnd, lineEndBytes, afterEmptyLine, emptyLineBytes, afterPage, afterPageEnd, pageEndBytes, openingBlanks, afterCells, cellsAfter, afterWord, wordBytes}
+use Rattle.layout.specs.Place.{hasLine, afterLine, lineBytes, afterLineEnd, lineEndBytes, emptyLineBytes}
 use Rattle.layout.specs.declared.Place.{Place}
 use Rattle.layout.proofs.Moves as Moves
 use Rattle.layout.proofs.Bytes as Bytes
-use Rattle.layout.proofs.Sets.{sets-append, put-then}
+use Rattle.layout.proofs.Sets.{put-then}
 use Rattle.layout.proofs.writing.put_empty_line.Statement.{statement}
 use Rattle.layout.proofs.writing.put_empty_line.Tie as tie
 

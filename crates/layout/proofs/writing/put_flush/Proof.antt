@@ -1,17 +1,9 @@
 -- `layout::writing::put_flush` meets its contract: by whether cells wait.
 use borrow.Author.Needs.{needs}
-use Prim.Native.Nat.{ℕ, suc, _+_, _^_, _≤_, _<_}
-use mathlib.Core.List.{List, [], _∷_, _++_}
-use mathlib.Core.Path.{_≡_, refl, sym, _∙_, ap, subst}
-use native.Mathlib.Omega.{arith}
+use mathlib.Core.Path.{refl}
 use lib.ListN.{length}
-use lib.Seq.{sets}
-use borrow.Author.Tests.{lt-ltb, le-ltb, ne-eqb}
-use Rattle.layout.specs.Words.{formatOf}
-use Rattle.layout.specs.Place.{afterLineEnd, lineEndBytes, afterParagraph, paragraphBytes, afterWord, wordBytes, afterItem, itemBytes}
-use Rattle.layout.specs.Gather.{afterFlush, flushBytes, afterFormat, formatBytes}
-use Rattle.layout.specs.declared.Place.{Place}
-use Rattle.layout.proofs.Moves as Moves
+use borrow.Author.Tests.{lt-ltb, le-ltb}
+use Rattle.layout.specs.Gather.{afterFlush, flushBytes}
 use Rattle.layout.proofs.writing.put_flush.Statement.{statement}
 use Rattle.layout.proofs.writing.put_flush.Tie as tie
 

@@ -1,15 +1,13 @@
 -- `layout::writing::put_format` meets its contract: each format sign is its own move, and any other sign is none.
 use borrow.Author.Needs.{needs}
-use Prim.Native.Nat.{ℕ, suc, _+_, _^_, _≤_, _<_}
-use mathlib.Core.List.{List, [], _∷_, _++_}
-use mathlib.Core.Path.{_≡_, refl, sym, _∙_, ap, subst}
+use Prim.Native.Nat.{ℕ, _^_}
+use mathlib.Core.List.{List}
+use mathlib.Core.Path.{_≡_, refl, sym, subst}
 use native.Mathlib.Omega.{arith}
-use lib.ListN.{length}
-use lib.Seq.{sets}
-use borrow.Author.Tests.{lt-ltb, le-ltb, ne-eqb}
+use borrow.Author.Tests.{ne-eqb}
 use Rattle.layout.specs.Words.{formatOf}
-use Rattle.layout.specs.Place.{afterLineEnd, lineEndBytes, afterParagraph, paragraphBytes, afterWord, wordBytes, afterItem, itemBytes}
-use Rattle.layout.specs.Gather.{afterFlush, flushBytes, afterFormat, formatBytes}
+use Rattle.layout.specs.Place.{afterItem, itemBytes}
+use Rattle.layout.specs.Gather.{afterFormat, formatBytes}
 use Rattle.layout.specs.declared.Place.{Place}
 use Rattle.layout.proofs.Moves as Moves
 use Rattle.layout.specs.Writing.{Moved, Room}

@@ -1,17 +1,10 @@
 -- `layout::writing::put_line` meets its contract: by whether one more line fills the page.
 use borrow.Author.Needs.{needs}
-use Prim.Native.Nat.{ℕ, suc, _+_, _^_, _≤_, _<_}
-use mathlib.Core.List.{List, [], _∷_, _++_}
-use mathlib.Core.Path.{_≡_, refl, sym, _∙_, ap, subst}
+use mathlib.Core.Path.{ap}
 use native.Mathlib.Numerals.{add-one}
 use native.Mathlib.Omega.{arith}
-use lib.ListN.{length, set, length-set, length-append}
-use lib.Seq.{sets, length-sets}
-use Rattle.layout.specs.Place.{afterLine, lineBytes, afterLineEnd, lineEndBytes, afterEmptyLine, emptyLineBytes, afterPage, afterPageEnd, pageEndBytes, openingBlanks, afterCells, cellsAfter, afterWord, wordBytes}
-use Rattle.layout.specs.declared.Place.{Place}
-use Rattle.layout.proofs.Moves as Moves
+use lib.ListN.{length, length-set}
 use Rattle.layout.proofs.Bytes as Bytes
-use Rattle.layout.proofs.Sets.{sets-append, put-then}
 use Rattle.layout.proofs.writing.put_line.Statement.{statement}
 use Rattle.layout.proofs.writing.put_line.Tie as tie
 

@@ -1,17 +1,12 @@
 -- `layout::writing::put_line_end` meets its contract: by whether the line holds a cell.
 use borrow.Author.Needs.{needs}
-use Prim.Native.Nat.{ℕ, suc, _+_, _^_, _≤_, _<_}
-use mathlib.Core.List.{List, [], _∷_, _++_}
-use mathlib.Core.Path.{_≡_, refl, sym, _∙_, ap, subst}
-use native.Mathlib.Numerals.{add-one}
+use Prim.Native.Nat.{ℕ}
+use mathlib.Core.List.{List}
+use mathlib.Core.Path.{_≡_, sym, _∙_, ap}
 use native.Mathlib.Omega.{arith}
-use lib.ListN.{length, set, length-set, length-append}
-use lib.Seq.{sets, length-sets}
-use Rattle.layout.specs.Place.{afterLine, lineBytes, afterLineEnd, lineEndBytes, afterEmptyLine, emptyLineBytes, afterPage, afterPageEnd, pageEndBytes, openingBlanks, afterCells, cellsAfter, afterWord, wordBytes}
-use Rattle.layout.specs.declared.Place.{Place}
+use lib.Seq.{sets}
 use Rattle.layout.proofs.Moves as Moves
 use Rattle.layout.proofs.Bytes as Bytes
-use Rattle.layout.proofs.Sets.{sets-append, put-then}
 use Rattle.layout.proofs.writing.put_line_end.Statement.{statement}
 use Rattle.layout.proofs.writing.put_line_end.Tie as tie
 

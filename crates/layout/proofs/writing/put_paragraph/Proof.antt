@@ -1,16 +1,7 @@
 -- `layout::writing::put_paragraph` meets its contract: the bytes are those of sign 70.
 use borrow.Author.Needs.{needs}
-use Prim.Native.Nat.{ℕ, suc, _+_, _^_, _≤_, _<_}
-use mathlib.Core.List.{List, [], _∷_, _++_}
-use mathlib.Core.Path.{_≡_, refl, sym, _∙_, ap, subst}
 use native.Mathlib.Omega.{arith}
-use lib.ListN.{length}
-use lib.Seq.{sets}
-use borrow.Author.Tests.{lt-ltb, le-ltb, ne-eqb}
-use Rattle.layout.specs.Words.{formatOf}
-use Rattle.layout.specs.Place.{afterLineEnd, lineEndBytes, afterParagraph, paragraphBytes, afterWord, wordBytes, afterItem, itemBytes}
-use Rattle.layout.specs.Gather.{afterFlush, flushBytes, afterFormat, formatBytes}
-use Rattle.layout.specs.declared.Place.{Place}
+use Rattle.layout.specs.Place.{afterParagraph, paragraphBytes}
 use Rattle.layout.proofs.Moves as Moves
 use Rattle.layout.proofs.writing.put_paragraph.Statement.{statement}
 use Rattle.layout.proofs.writing.put_paragraph.Tie as tie

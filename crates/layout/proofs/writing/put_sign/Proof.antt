@@ -1,14 +1,13 @@
 -- `layout::writing::put_sign` meets its contract: a blank, a format sign, the cell that fills the line, a cell that waits, as the laws of a step have it.
 use borrow.Author.Needs.{needs}
-use Prim.Native.Nat.{ℕ, suc, _+_, _^_, _≤_, _<_}
+use Prim.Native.Nat.{ℕ, _+_, _^_}
 use mathlib.Core.List.{List, [], _∷_, _++_}
-use mathlib.Core.Path.{_≡_, refl, sym, _∙_, ap, subst}
+use mathlib.Core.Path.{_≡_, sym, _∙_, ap}
 use native.Mathlib.Omega.{arith}
 use lib.ListN.{length, set, take, length-set, length-append}
 use lib.Seq.{sets, length-sets, length-take-le}
 use Rattle.layout.specs.Place.{afterWord, wordBytes}
-use Rattle.layout.specs.Gather.{afterFlush, flushBytes, afterFormat, formatBytes, stepped, stepBytes}
-use Rattle.layout.specs.Writing.{Room}
+use Rattle.layout.specs.Gather.{afterFlush, flushBytes, afterFormat, formatBytes}
 use Rattle.layout.specs.declared.Gathering.{Gathering}
 use Rattle.layout.specs.declared.Place.{Place}
 use Rattle.layout.proofs.Moves as Moves

@@ -1,14 +1,13 @@
 -- `layout::writing::put_word` meets its contract: on an empty line, joining, or on the next line; the bytes of the line's end and of the cells are one run
 -- after the other.
 use borrow.Author.Needs.{needs}
-use Prim.Native.Nat.{ℕ, suc, _+_, _^_, _≤_, _<_}
-use mathlib.Core.List.{List, [], _∷_, _++_}
-use mathlib.Core.Path.{_≡_, refl, sym, _∙_, ap, subst}
-use native.Mathlib.Numerals.{add-one}
+use Prim.Native.Nat.{ℕ, _+_, _^_, _≤_, _<_}
+use mathlib.Core.List.{List}
+use mathlib.Core.Path.{sym, _∙_, ap}
 use native.Mathlib.Omega.{arith}
-use lib.ListN.{length, set, length-set, length-append}
+use lib.ListN.{length, length-append}
 use lib.Seq.{sets, length-sets}
-use Rattle.layout.specs.Place.{afterLine, lineBytes, openingBlanks, afterCells, cellsAfter, afterWord, wordBytes}
+use Rattle.layout.specs.Place.{afterLine, lineBytes, openingBlanks, afterCells, cellsAfter}
 use Rattle.layout.specs.declared.Place.{Place}
 use Rattle.layout.proofs.Moves as Moves
 use Rattle.layout.proofs.Bytes as Bytes

@@ -1,11 +1,10 @@
 -- `layout::writing::write` meets its contract. The loop's invariant is `Going`: what is written, joined to what the rest still yields, is the whole.
-use Prim.Native.Nat.{ℕ, _+_, _-_, _^_, _≤_, _<_}
-use mathlib.Core.List.{List}
-use mathlib.Core.Path.{_≡_, refl, sym, _∙_, ap, subst}
+use Prim.Native.Nat.{_-_}
+use mathlib.Core.Path.{refl, sym, _∙_, ap}
 use native.Mathlib.Omega.{arith}
 use borrow.Author.Needs.{needs}
-use lib.ListN.{length, take}
-use lib.Seq.{sets, length-sets, length-take-le}
+use lib.ListN.{length}
+use lib.Seq.{length-sets, length-take-le}
 use Rattle.layout.specs.Words.{itemsOf}
 use Rattle.layout.specs.Place.{volume}
 use Rattle.layout.proofs.Going.{Going, Sized, going-first, sign-room, going-more, flush-room, page-end-room, whole-written}

@@ -2,10 +2,10 @@
 use borrow.Author.Needs.{needs}
 use mathlib.Core.Path.{sym, _∙_, ap}
 use Rattle.table.specs.Table.{tableIn}
+use Rattle.table.proofs.Lists.{getD-there}
 use lib.ListN.{List·getD-eq-default}
 use Rattle.translation.specs.Letters.{classOf}
 use Rattle.translation.specs.Choose.{classAfter}
-use Rattle.translation.proofs.Lists.{getD-there}
 use Rattle.translation.proofs.choosing.class_after.Statement.{statement}
 use Rattle.translation.proofs.choosing.class_after.Tie as tie
 

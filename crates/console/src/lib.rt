@@ -1,8 +1,23 @@
-// What the programs print of an answer and of the output's bytes, to standard output, in the paper's form: numbers in decimal, parted by one blank.
-// No contract can say which bytes a call of the C library writes, so these promise only that they are safe and end; the programs' runs are compared.
+// What the programs read and print: the table file, and to standard output an answer and the output's bytes in the paper's form, numbers in decimal
+// parted by one blank. No contract can say which bytes a call of the C library reads or writes, so these promise only that they are safe and end, and that
+// what was read lies within the bytes lent; the programs' runs are compared.
 
+ghost use Rattle.io.specs.Counts.{Counts};
 use layout::Answer;
 use libc::STDOUT_FILENO;
+
+// The first 32,768 bytes of the file `cases.tab` of the current folder, and how many there are. A file that can't be opened counts as empty.
+pub fn read_table(image: &mut [u8; 32768]) -> usize
+    ensures { λ r. ⌜ Counts r (now (image .exit)) ⌝ }
+{
+    let fd = os::open_read(&[b'c', b'a', b's', b'e', b's', b'.', b't', b'a', b'b']);
+    if fd < 0 {
+        return 0;
+    }
+    let n = io::read_full(fd, image);
+    libc::close(fd);
+    n
+}
 
 fn print_blank() {
     io::write_all(STDOUT_FILENO, &[b' ']);

@@ -1,9 +1,9 @@
--- `printing::print_pages` is safe and ends: the measure is how many bytes are left.
+-- `console::print_pages` is safe and ends: the measure is how many bytes are left.
 use Prim.Native.Nat.{_≤_, _-_}
 use native.Mathlib.Omega.{arith}
 use lib.ListN.{length}
-use Rattle.printing.proofs.print_pages.Statement.{statement}
-use Rattle.printing.proofs.print_pages.Tie as tie
+use Rattle.console.proofs.print_pages.Statement.{statement}
+use Rattle.console.proofs.print_pages.Tie as tie
 
 abbrev Inv-loop : tie.InvT-loop
 Inv-loop bytes first₀ i₀ first i = i ≤ length bytes

@@ -1,0 +1,13 @@
+-- `answers::low_byte` is safe: what the mask leaves of a number fits a byte.
+use lib.Bits.{mask-lt}
+use Rattle.answers.proofs.low_byte.Statement.{statement}
+use Rattle.answers.proofs.low_byte.Tie as tie
+
+cast-result : tie.Need-cast-result
+cast-result c = record { fits = mask-lt (c .args .n) 8 }
+
+returns : tie.Need-returns
+returns c = tt
+
+pub low-byte-spec : {M : Type 1} → statement M
+low-byte-spec = tie.close (tie.spec cast-result returns)

@@ -1,0 +1,160 @@
+// Answers many cases in one run, for the comparison in tests/: reads cases from standard input, one after another until it ends, and writes to standard
+// output what the whole call answers to each and every byte of the buffer that was lent. Numbers are low byte first.
+//
+// A case:     4 bytes  length of the table image, at most 65,536
+//             4 bytes  length of the text, at most 17,000
+//             8 bytes  W, any 64-bit number
+//             8 bytes  P, any 64-bit number
+//             4 bytes  output room, at most 163,840
+//             the image, then the text
+// Its answer: 1 byte   number
+//             8 bytes  each: place, bytes written, pieces, lines, pages
+//             the whole buffer of `room` bytes after the call; before it byte i, counted from 0, was the low eight bits of 7 i + 13
+//
+// A case over these limits, or one that the input cuts short, gets no answer, and the run ends there.
+
+ghost use Prim.Native.Nat.{_≤_};
+ghost use Rattle.io.specs.Counts.{Counts};
+use layout::Answer;
+use libc::STDIN_FILENO;
+use libc::STDOUT_FILENO;
+
+// The sizes of a case.
+struct Head {
+    image: usize,
+    text: usize,
+    width: usize,
+    page: usize,
+    room: usize,
+}
+
+fn wide(b: u8) -> usize {
+    b as usize
+}
+
+// The number in the four bytes from `at` on.
+fn four(head: &[u8; 28], at: usize) -> usize
+    requires { ⌜ at ≤ 24 ⌝ }
+{
+    let low = wide(head[at]) | (wide(head[at + 1]) << 8);
+    let high = wide(head[at + 2]) | (wide(head[at + 3]) << 8);
+    low | (high << 16)
+}
+
+// The number in the eight bytes from `at` on.
+fn eight(head: &[u8; 28], at: usize) -> usize
+    requires { ⌜ at ≤ 20 ⌝ }
+{
+    four(head, at) | (four(head, at + 4) << 32)
+}
+
+fn read_head(head: &[u8; 28]) -> Head {
+    Head {
+        image: four(head, 0),
+        text: four(head, 4),
+        width: eight(head, 8),
+        page: eight(head, 16),
+        room: four(head, 24),
+    }
+}
+
+// The buffer as it is lent.
+fn prepare(out: &mut [u8]) {
+    let mut b: u8 = 13;
+    let mut i = 0;
+    while i < out.len() {
+        out[i] = b;
+        b = std::num::wrapping_add_u8(b, 7);
+        i += 1;
+    }
+}
+
+fn low_byte(n: usize) -> u8 {
+    (n & 255) as u8
+}
+
+fn write_eight(n: usize) -> bool {
+    io::write_all(
+        STDOUT_FILENO,
+        &[
+            low_byte(n),
+            low_byte(n >> 8),
+            low_byte(n >> 16),
+            low_byte(n >> 24),
+            low_byte(n >> 32),
+            low_byte(n >> 40),
+            low_byte(n >> 48),
+            low_byte(n >> 56),
+        ],
+    )
+}
+
+fn write_answer(answer: Answer) -> bool {
+    io::write_all(STDOUT_FILENO, &[answer.number()])
+        & write_eight(answer.place())
+        & write_eight(answer.written())
+        & write_eight(answer.pieces())
+        & write_eight(answer.lines())
+        & write_eight(answer.pages())
+}
+
+// Reads the next `n` bytes of the input into the front of the buffer, and answers how many came; none where the buffer hasn't the room.
+fn read_front(bytes: &mut [u8], n: usize) -> usize
+    ensures { λ r. ⌜ Counts r (now (bytes .exit)) ⌝ }
+{
+    if bytes.len() < n {
+        return 0;
+    }
+    io::read_full(STDIN_FILENO, &mut bytes[..n])
+}
+
+// Answers one case into a buffer.
+fn answer_into(image: &[u8], text: &[u8], width: usize, page: usize, out: &mut [u8]) -> bool {
+    prepare(out);
+    let answer = layout::emboss(image, text, width, page, out);
+    write_answer(answer) & io::write_all(STDOUT_FILENO, out)
+}
+
+// Answers one case with so much room.
+fn answer(image: &[u8], text: &[u8], width: usize, page: usize, room: usize) -> bool {
+    let mut out = [0u8; 163840];
+    if out.len() < room {
+        return false;
+    }
+    answer_into(image, text, width, page, &mut out[..room])
+}
+
+// Answers the case with this head, whose image and text follow.
+fn answer_with(head: Head) -> bool {
+    let mut image = [0u8; 65536];
+    let held = read_front(&mut image, head.image);
+    let mut text = [0u8; 17000];
+    let length = read_front(&mut text, head.text);
+    if (held != head.image) | (length != head.text) {
+        return false;
+    }
+    answer(
+        &image[..held],
+        &text[..length],
+        head.width,
+        head.page,
+        head.room,
+    )
+}
+
+// Answers the next case, and says whether there was one.
+fn answer_next() -> bool {
+    let mut head = [0u8; 28];
+    if io::read_full(STDIN_FILENO, &mut head) != 28 {
+        return false;
+    }
+    answer_with(read_head(&head))
+}
+
+// A proved loop has to end, and nothing says that the input does: the cases are counted down from a number that no run uses up.
+fn main() {
+    let mut left = u64::MAX;
+    while left > 0 && answer_next() {
+        left -= 1;
+    }
+}
