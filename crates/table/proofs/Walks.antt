@@ -7,8 +7,8 @@
 --     ends       the end of a walk: the contract's `ensures` is shown
 --     of-local, gone             a local's value as an operand; a local is freed
 --     known, framed, closes      a callee's theorem as `calls` takes it, and what it asks of the table of calls; a function's theorem, from the walk of its MIR
---     Bytes, Room, bytes         the types of a lent `&[u8]` and `&mut [u8]`, and the machine value of either
---     bytes-typed, room-typed, sections-typed, verdict-typed, reader-typed      the machine value of each has its MIR type
+--     Bytes, Buffer, bytes       the types of a lent `&[u8]` and `&mut [u8]`, and the machine value of either
+--     bytes-typed, buffer-typed, sections-typed, verdict-typed, reader-typed      the machine value of each has its MIR type
 use mathlib.Core.Path.{_≡_, refl}
 use Prim.Native.Nat.{ℕ, zero}
 use mathlib.Core.List.{List, [], _∷_}
@@ -159,8 +159,8 @@ module _ {M : Type 1} (𝓤 : URA M) (H : Heap 𝓤) (𝓜 : Model 𝓤 H) (𝓖
 abbrev pub Bytes : Lifetime → Lft → RattleType
 Bytes ℓ κ = ShrSlice ℓ κ u8
 
-abbrev pub Room : Lifetime → Lft → RattleType
-Room ℓ κ = MutSlice ℓ κ u8
+abbrev pub Buffer : Lifetime → Lft → RattleType
+Buffer ℓ κ = MutSlice ℓ κ u8
 
 abbrev pub bytes : RefT (List ℕ) → Val
 bytes x = sliceVal (x .ptr) (length (x .now))
@@ -172,8 +172,8 @@ module _ {M : Type 1} (𝓤 : URA M) (H : Heap 𝓤) (A : Atoms 𝓤) (W : Given
   pub bytes-typed : (ℓ : Lifetime) (κ : Lft) (x : RefT (List ℕ)) → Is (Bytes ℓ κ) x (u ∷ []) → Typed (sliceTy (tyRef ℓ imm (tyInt w8))) u
   bytes-typed ℓ κ x is = shr-slice-lawful 𝓤 H A W ℓ κ u8 .typed x (u ∷ []) is .0
 
-  pub room-typed : (ℓ : Lifetime) (κ : Lft) (x : RefT (List ℕ)) → Is (Room ℓ κ) x (u ∷ []) → Typed (sliceTy (tyRef ℓ mut (tyInt w8))) u
-  room-typed ℓ κ x is = mut-slice-lawful 𝓤 H A W ℓ κ u8 .typed x (u ∷ []) is .0
+  pub buffer-typed : (ℓ : Lifetime) (κ : Lft) (x : RefT (List ℕ)) → Is (Buffer ℓ κ) x (u ∷ []) → Typed (sliceTy (tyRef ℓ mut (tyInt w8))) u
+  buffer-typed ℓ κ x is = mut-slice-lawful 𝓤 H A W ℓ κ u8 .typed x (u ∷ []) is .0
 
   pub sections-typed : (s : Sections) → Is S.the-row s (u ∷ []) → Typed S′.mir u
   sections-typed s is = LL.lawful S.the-type S′.the-laws 𝓤 H A W .typed s (u ∷ []) is .0

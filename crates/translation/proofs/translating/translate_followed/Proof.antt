@@ -35,7 +35,8 @@ use denote.Triple.Walked.{needs}
 use Rattle.table.specs.Numbers.{entrySigns}
 use Rattle.table.specs.Promises.{Reads}
 use Rattle.table.specs.declared.Reader.{Reader}
-use Rattle.table.proofs.Walks.{Met, starts, calls, ends, of-local, gone, known, framed, closes, Bytes, Room, bytes, bytes-typed, room-typed, reader-typed}
+use Rattle.table.proofs.Walks.{Met, starts, calls, ends, of-local, gone, known, framed, closes}
+use Rattle.table.proofs.Walks.{Bytes, Buffer, bytes, bytes-typed, buffer-typed, reader-typed}
 use Rattle.table.proofs.open as opens
 use Rattle.table.proofs.open.Symbol as open-def
 use Rattle.table.proofs.open.Symbol.{name as #table·open}
@@ -82,7 +83,7 @@ module _ {M : Type 1} (𝓤 : URA M) (H : Heap 𝓤) (A : Atoms 𝓤) (W : Given
     vals = (setting ∷ [], (bytes i ∷ [], (bytes t ∷ [], (bytes x ∷ [], tt))))
 
     abbrev Own : Fml
-    Own = owns (P.the-row ∷ Bytes (named 0) κ ∷ Bytes (named 1) κ₁ ∷ Room (named 2) κ₂ ∷ []) passed vals
+    Own = owns (P.the-row ∷ Bytes (named 0) κ ∷ Bytes (named 1) κ₁ ∷ Buffer (named 2) κ₂ ∷ []) passed vals
 
     abbrev at : Met 𝓤 H A followed.ended (followed.clauses 𝓤 H A mem run) .Ghost
     at = ((κs, qs, tt, passed, vals), tt)
@@ -95,7 +96,7 @@ module _ {M : Type 1} (𝓤 : URA M) (H : Heap 𝓤) (A : Atoms 𝓤) (W : Given
     together = qed W ((‵ (flft κ q) ⊛ ‵ ftrue) ∷ (‵ (flft κ₁ q₁) ⊛ ‵ (flft κ₂ q₂) ⊛ ‵ ftrue) ∷ []) ∵ split ! $ move ! (1 ∷ []) $ drop ! $ join ! $ done !
 
     walk : Is P.the-row p (setting ∷ []) → Is (Bytes (named 0) κ) i (bytes i ∷ []) → Is (Bytes (named 1) κ₁) t (bytes t ∷ [])
-        → Is (Room (named 2) κ₂) x (bytes x ∷ []) → entrySigns * mostText ≤ length (now x)
+        → Is (Buffer (named 2) κ₂) x (bytes x ∷ []) → entrySigns * mostText ≤ length (now x)
         → ent 𝓤 (onEntry 𝓤 H A followed.signature κs qs passed vals)
         (WpFn 𝓤 H C Λ code.function (setting ∷ bytes i ∷ bytes t ∷ bytes x ∷ []) (Met 𝓤 H A followed.ended (followed.clauses 𝓤 H A mem run) .post at))
     walk is-p is-i is-t is-x enough =
@@ -103,7 +104,7 @@ module _ {M : Type 1} (𝓤 : URA M) (H : Heap 𝓤) (A : Atoms 𝓤) (W : Given
         alloc1 ! (λ l₀. alloc1 ! (λ l₁. alloc1 ! (λ l₂. alloc1 ! (λ l₃. alloc1 ! (λ l₄.
         alloc1 ! (λ l₅. alloc1 ! (λ l₆. alloc1 ! (λ l₇. alloc1 ! (λ l₈. alloc0 ! $ params1 ! $
         pass1 ! (init ! 14 refl (LL.lawful P.the-type P′.the-laws 𝓤 H A W .typed p _ is-p .0)) $ pass1 ! (init ! 12 refl (bytes-typed 𝓤 H A W (named 0) κ i is-i)) $
-        pass1 ! (init ! 10 refl (bytes-typed 𝓤 H A W (named 1) κ₁ t is-t)) $ pass1 ! (init ! 8 refl (room-typed 𝓤 H A W (named 2) κ₂ x is-x)) $ pass0 ! $
+        pass1 ! (init ! 10 refl (bytes-typed 𝓤 H A W (named 1) κ₁ t is-t)) $ pass1 ! (init ! 8 refl (buffer-typed 𝓤 H A W (named 2) κ₂ x is-x)) $ pass0 ! $
         -- [_8; …; _7; …; _6; …; _5; …; _4; …; _3; …; _2; …; _1; …; room for _0; …; the tokens; what the parameters own]
         move ! (19 ∷ 18 ∷ []) $ fsplit ! $ move ! (1 ∷ []) $ fsplit ! $ move ! (3 ∷ []) $ split ! $
         -- [the image's token; the other tokens; the image; the text and the signs; the setting; _8; …]
@@ -117,7 +118,7 @@ module _ {M : Type 1} (𝓤 : URA M) (H : Heap 𝓤) (A : Atoms 𝓤) (W : Given
         assigns ! (of-opd ! (of-local ! 12 refl)) (from ! (stop !)) (init ! 10 refl (reader-typed 𝓤 H A W ε d is-d)) $
         assigns ! (addr ! (from ! (fld ! refl (hop ! (look-in ! 14 (sub ! 0 refl (whole !))) (stop !))))) (from ! (stop !)) (init ! 8 refl (tt, tt)) $
         assigns ! (agg ! (and-then ! (of-local ! 8 refl) (and-then ! (load ! (from ! (fld ! refl (stop !))) (look-in ! 14 (sub ! 1 refl (whole !)))) (no-more !))))
-        (from ! (stop !)) (init ! 6 refl (room-typed 𝓤 H A W erased κ₂ x is-x)) $
+        (from ! (stop !)) (init ! 6 refl (buffer-typed 𝓤 H A W erased κ₂ x is-x)) $
         move ! (5 ∷ 4 ∷ []) $ fjoin ! $ move ! (1 ∷ 0 ∷ []) $ fjoin ! $ move ! (1 ∷ 3 ∷ []) $ use2 W (raw (alive 𝓤 H A read.signature κs qs)) together $
         -- [the tokens; what is asked; last values; _8; …]
         calls ! fm read.ended (read.clauses 𝓤 H A mem run) met (to-read d u)

@@ -38,7 +38,7 @@ use Rattle.table.specs.Numbers.{entrySigns}
 use Rattle.table.specs.Promises.{Reads}
 use Rattle.table.specs.declared.Reader.{Reader}
 use Rattle.table.proofs.Walks.{Met, starts, calls, ends, of-local, gone, known, framed, closes}
-use Rattle.table.proofs.Walks.{Bytes, Room, bytes, bytes-typed, room-typed, sections-typed, verdict-typed, reader-typed}
+use Rattle.table.proofs.Walks.{Bytes, Buffer, bytes, bytes-typed, buffer-typed, sections-typed, verdict-typed, reader-typed}
 use Rattle.table.proofs.Reader as R
 use Rattle.table.proofs.Reader.Laws as R′
 use Rattle.table.proofs.Sections as S
@@ -83,7 +83,7 @@ module _ {M : Type 1} (𝓤 : URA M) (H : Heap 𝓤) (A : Atoms 𝓤) (W : Given
     vals = (reader ∷ [], (setting ∷ [], (bytes t ∷ [], (bytes x ∷ [], tt))))
 
     abbrev Own : Fml
-    Own = owns (R.the-row (α κs) ∷ P.the-row ∷ Bytes (named 1) (κs .1 .0) ∷ Room (named 2) (κs .1 .1 .0) ∷ []) passed vals
+    Own = owns (R.the-row (α κs) ∷ P.the-row ∷ Bytes (named 1) (κs .1 .0) ∷ Buffer (named 2) (κs .1 .1 .0) ∷ []) passed vals
 
     abbrev at : Met 𝓤 H A read.ended (read.clauses 𝓤 H A mem run) .Ghost
     at = ((κs, qs, tt, passed, vals), tt)
@@ -111,7 +111,7 @@ module _ {M : Type 1} (𝓤 : URA M) (H : Heap 𝓤) (A : Atoms 𝓤) (W : Given
     )
 
     walk : Is (R.the-row (α κs)) d (reader ∷ []) → Is P.the-row p (setting ∷ []) → Is (Bytes (named 1) (κs .1 .0)) t (bytes t ∷ [])
-        → Is (Room (named 2) (κs .1 .1 .0)) x (bytes x ∷ []) → Reads (d .image) d × (entrySigns * mostText ≤ length (now x))
+        → Is (Buffer (named 2) (κs .1 .1 .0)) x (bytes x ∷ []) → Reads (d .image) d × (entrySigns * mostText ≤ length (now x))
         → ent 𝓤 (onEntry 𝓤 H A read.signature κs qs passed vals)
         (WpFn 𝓤 H C Λ code.function (reader ∷ setting ∷ bytes t ∷ bytes x ∷ []) (Met 𝓤 H A read.ended (read.clauses 𝓤 H A mem run) .post at))
     walk is-d is-p is-t is-x pre =
@@ -121,7 +121,7 @@ module _ {M : Type 1} (𝓤 : URA M) (H : Heap 𝓤) (A : Atoms 𝓤) (W : Given
         alloc1 ! (λ l₅. alloc1 ! (λ l₆. alloc1 ! (λ l₇. alloc1 ! (λ l₈. alloc1 ! (λ l₉. alloc0 ! $ params1 ! $
         pass1 ! (init ! 16 refl (reader-typed 𝓤 H A W (α κs) d is-d)) $ pass1 ! (init ! 14 refl (LL.lawful P.the-type P′.the-laws 𝓤 H A W .typed p _ is-p .0)) $
         pass1 ! (init ! 12 refl (bytes-typed 𝓤 H A W (named 1) (κs .1 .0) t is-t)) $
-        pass1 ! (init ! 10 refl (room-typed 𝓤 H A W (named 2) (κs .1 .1 .0) x is-x)) $ pass0 ! $
+        pass1 ! (init ! 10 refl (buffer-typed 𝓤 H A W (named 2) (κs .1 .1 .0) x is-x)) $ pass0 ! $
         -- [_9; …; _8; …; _7; …; _6; …; _5; …; _4; …; _3; …; _2; …; _1; …; room for _0; …; the tokens; what the parameters own]
         assigns ! (of-opd ! (load ! (from ! (fld ! refl (stop !))) (look-in ! 16 (sub ! 0 refl (whole !))))) (from ! (stop !))
         (init ! 8 refl (bytes-typed 𝓤 H A W erased (κs .0) (d .image) (held .0))) $
@@ -131,7 +131,7 @@ module _ {M : Type 1} (𝓤 : URA M) (H : Heap 𝓤) (A : Atoms 𝓤) (W : Given
         (init ! 4 refl (verdict-typed 𝓤 H A W (d .verdict) (held .1 .1 .0))) $
         assigns ! (addr ! (from ! (fld ! refl (hop ! (look-in ! 10 (sub ! 0 refl (whole !))) (stop !))))) (from ! (stop !)) (init ! 2 refl (tt, tt)) $
         assigns ! (agg ! (and-then ! (of-local ! 2 refl) (and-then ! (load ! (from ! (fld ! refl (stop !))) (look-in ! 10 (sub ! 1 refl (whole !)))) (no-more !))))
-        (from ! (stop !)) (init ! 0 refl (room-typed 𝓤 H A W erased (κs .1 .1 .0) x is-x)) $
+        (from ! (stop !)) (init ! 0 refl (buffer-typed 𝓤 H A W erased (κs .1 .1 .0) x is-x)) $
         -- what the reader owns is taken apart, and each part is put before what the other parameters own
         move ! (21 ∷ []) $ fsplit ! $
         use1 W (given (reader ∷ [] ≡ reader ∷ []) (‵ (all-own (R.the-type (α κs) .parts) (R′.the-laws (α κs)) parts)))
