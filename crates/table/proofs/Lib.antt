@@ -18,3 +18,4 @@ pub mod Distances
 pub mod Laid
 pub mod Reading
 pub mod Sound
+pub mod Walks

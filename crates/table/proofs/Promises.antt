@@ -2,11 +2,13 @@
 use Prim.Native.Nat.{ℕ}
 use mathlib.Core.List.{List}
 use mathlib.Core.Path.{_≡_, sym, _∙_}
-use Rattle.table.specs.Promises.{Located, RecordByte, RecordPart, Checked, FaultNumber, FaultPlace}
+use denote.Ref.{RefT}
+use Rattle.table.specs.Promises.{Located, RecordByte, RecordPart, Checked, Reads, ReaderVerdict, FaultNumber, FaultPlace}
 use Rattle.table.specs.declared.Section.{Section}
 use Rattle.table.specs.declared.Sections.{Sections}
 use Rattle.table.specs.declared.Fault.{Fault}
 use Rattle.table.specs.declared.Verdict.{Verdict}
+use Rattle.table.specs.declared.Reader.{Reader}
 
 pub locate-determined : {image : List ℕ} {a b : Sections} → Located image a → Located image b → a ≡ b
 locate-determined p q = p .is ∙ sym (q .is)
@@ -19,6 +21,16 @@ record-part-determined p q = p .is ∙ sym (q .is)
 
 pub check-determined : {image : List ℕ} {a b : Verdict} → Checked image a → Checked image b → a ≡ b
 check-determined p q = p .is ∙ sym (q .is)
+
+pub open-determined : {image : RefT (List ℕ)} {a b : Reader} → Reads image a → Reads image b → a ≡ b
+open-determined p q = λ i. record {
+  image = (p .lent ∙ sym (q .lent)) i;
+  sections = locate-determined (p .located) (q .located) i;
+  verdict = check-determined (p .checked) (q .checked) i;
+}
+
+pub reader-verdict-determined : {reader : Reader} {a b : Verdict} → ReaderVerdict reader a → ReaderVerdict reader b → a ≡ b
+reader-verdict-determined p q = p .is ∙ sym (q .is)
 
 pub fault-number-determined : {fault : Fault} {a b : ℕ} → FaultNumber fault a → FaultNumber fault b → a ≡ b
 fault-number-determined p q = p .is ∙ sym (q .is)

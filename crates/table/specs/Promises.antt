@@ -6,14 +6,16 @@ use mathlib.Core.List.{List, []}
 use mathlib.Core.Path.{_≡_}
 use lib.Dec.{leb}
 use lib.ListN.{length}
+use denote.Ref.{RefT, now}
 use Rattle.table.specs.Sections.{sectionsOf, offset, recordByte, recordPart}
 use Rattle.table.specs.Verdict.{faultNumber, faultPlace, verdictOf}
 use Rattle.table.specs.declared.Section.{Section}
 use Rattle.table.specs.declared.Sections.{Sections}
 use Rattle.table.specs.declared.Fault.{Fault}
 use Rattle.table.specs.declared.Verdict.{Verdict}
+use Rattle.table.specs.declared.Reader.{Reader}
 
--- `locate`: the sections, or none where the frame is wrong
+-- what `open` finds first, by `locate`: the sections, or none where the frame is wrong
 pub record Located (image : List ℕ) (answer : Sections) : Type 0 where
   pub is : answer ≡ sectionsOf image
 
@@ -32,6 +34,16 @@ pub record RecordPart (image : List ℕ) (s : Section) (k j n : ℕ) (answer : L
 -- `check`: the verdict of the definitions
 pub record Checked (image : List ℕ) (answer : Verdict) : Type 0 where
   pub is : answer ≡ verdictOf image
+
+-- `open`: the image itself, as it was lent, its sections and the verdict on it, for every image
+pub record Reads (image : RefT (List ℕ)) (answer : Reader) : Type 0 where
+  pub lent : answer .image ≡ image
+  pub located : Located (now image) (answer .sections)
+  pub checked : Checked (now image) (answer .verdict)
+
+-- `Reader::verdict`: the one that the reader holds
+pub record ReaderVerdict (reader : Reader) (answer : Verdict) : Type 0 where
+  pub is : answer ≡ reader .verdict
 
 -- `fault_number` and `fault_place`: the paper's
 pub record FaultNumber (fault : Fault) (answer : ℕ) : Type 0 where

@@ -152,7 +152,7 @@ fn no_sections() -> Sections
 }
 
 // The sections of any image: none where its frame is wrong.
-pub fn locate(image: &[u8]) -> Sections
+pub(crate) fn locate(image: &[u8]) -> Sections
     ensures { λ r. ⌜ Located (now (image .entry)) r ⌝ }
 {
     if image.len() < TRAILER {

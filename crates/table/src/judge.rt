@@ -3,12 +3,11 @@
 ghost use mathlib.Core.Path.{_≡_};
 ghost use Prim.Native.Nat.{_+_, _<_};
 ghost use Rattle.table.specs.Verdict.{recordsVerdict};
-ghost use Rattle.table.specs.Promises.{Checked, FaultNumber, FaultPlace};
+ghost use Rattle.table.specs.Promises.{Located, Checked, FaultNumber, FaultPlace};
 use crate::Fault;
 use crate::Found;
 use crate::Sections;
 use crate::Verdict;
-use crate::framing::locate;
 use crate::groups::first_break;
 use crate::read::offset_of;
 use crate::records::WrongRecord;
@@ -35,11 +34,11 @@ fn judged(image: &[u8], s: Sections) -> Verdict
     }
 }
 
-// The verdict on any image: accepted, or the first thing that is wrong with it, and where.
-pub fn check(image: &[u8]) -> Verdict
+// The verdict on any image, by its sections: accepted, or the first thing that is wrong with it, and where.
+pub(crate) fn verdict_on(image: &[u8], s: Sections) -> Verdict
+    requires { ⌜ Located (now image) s ⌝ }
     ensures { λ r. ⌜ Checked (now (image .entry)) r ⌝ }
 {
-    let s = locate(image);
     if s.classes == 0 {
         return Verdict::Refused(Fault::Frame);
     }

@@ -4,13 +4,14 @@
 mod framing;
 mod groups;
 mod judge;
+mod opening;
 mod read;
 mod records;
 
-pub use framing::locate;
-pub use judge::check;
 pub use judge::fault_number;
 pub use judge::fault_place;
+pub use opening::check;
+pub use opening::open;
 pub use read::record_byte;
 pub use read::record_part;
 
@@ -44,6 +45,13 @@ pub enum Fault {
 pub enum Verdict {
     Accepted,
     Refused(Fault),
+}
+
+// An opened image: the image as it was lent, its sections, and the verdict on it.
+pub struct Reader<'a> {
+    pub image: &'a [u8],
+    pub sections: Sections,
+    pub verdict: Verdict,
 }
 
 // What a search for a record answers: its number in the section.

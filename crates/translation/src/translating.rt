@@ -1,8 +1,9 @@
-// The whole call: the table is judged, then the text, and then the text is collapsed and its pieces print their signs.
+// The whole call: the table is opened, once, and judged, then the text, and then the text is collapsed and its pieces print their signs.
 
 ghost use Prim.Native.Nat.{_*_, _≤_};
 ghost use lib.ListN.{length};
 ghost use Rattle.table.specs.Numbers.{entrySigns};
+ghost use Rattle.table.specs.Promises.{Located, Checked, Reads};
 ghost use Rattle.table.specs.Table.{tableIn};
 ghost use Rattle.translation.specs.Numbers.{mostText};
 ghost use Rattle.translation.specs.Opened.{Opened};
@@ -14,6 +15,7 @@ use crate::Translation;
 use crate::alphabet::first_unknown;
 use crate::collapsing::collapse;
 use crate::piecing::consume;
+use table::Reader;
 use table::Sections;
 use table::Verdict;
 
@@ -47,15 +49,39 @@ fn translate_by(
     }
 }
 
-// Refusals 1 to 4, or what the table of the image makes of the text, where `setting` says what follows it.
+// Refusals 1 to 4, or what the table of the image makes of the text, by the sections and the verdict that the image was opened with.
+fn translate_judged(
+    image: &[u8],
+    s: Sections,
+    verdict: Verdict,
+    setting: Setting,
+    text: &[u8],
+    signs: &mut [u8],
+) -> Translation
+    requires { ⌜ Located (now image) s × Checked (now image) verdict × (entrySigns * mostText ≤ length (now signs)) ⌝ }
+    ensures { λ r. ⌜ Ends (translateFollowed setting (now (image .entry)) (now (text .entry)) (now (signs .entry))) r (now (signs .exit)) ⌝ }
+{
+    match verdict {
+        Verdict::Refused(fault) => Translation::Table(fault),
+        Verdict::Accepted => translate_by(image, s, setting, text, signs),
+    }
+}
+
+// The same by a reader of the image: it is taken apart.
+fn translate_read(r: Reader, setting: Setting, text: &[u8], signs: &mut [u8]) -> Translation
+    requires { ⌜ Reads (r .image) r × (entrySigns * mostText ≤ length (now signs)) ⌝ }
+    ensures { λ t. ⌜ Ends (translateFollowed setting (now (r .entry .image)) (now (text .entry)) (now (signs .entry))) t (now (signs .exit)) ⌝ }
+{
+    translate_judged(r.image, r.sections, r.verdict, setting, text, signs)
+}
+
+// Refusals 1 to 4, or what the table of the image makes of the text, where `setting` says what follows it. Here the image is opened.
 fn translate_followed(setting: Setting, image: &[u8], text: &[u8], signs: &mut [u8]) -> Translation
     requires { ⌜ entrySigns * mostText ≤ length (now signs) ⌝ }
     ensures { λ r. ⌜ Ends (translateFollowed setting (now (image .entry)) (now (text .entry)) (now (signs .entry))) r (now (signs .exit)) ⌝ }
 {
-    match table::check(image) {
-        Verdict::Refused(fault) => Translation::Table(fault),
-        Verdict::Accepted => translate_by(image, table::locate(image), setting, text, signs),
-    }
+    let r = table::open(image);
+    translate_read(r, setting, text, signs)
 }
 
 // Translates a text by a table: the refusal, or how many pieces it has and how many signs, which stand at the front of `signs`. What lies beyond them, and
