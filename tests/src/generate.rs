@@ -81,6 +81,7 @@ counted! {
         NoBlankUngrouped: "images without one and with entries in any order",
         WrongEntry: "images with a field of an entry on its limit or beyond",
         WrongLetter: "images with a field of a letter on its limit or beyond",
+        WrongRule: "images with another byte in a context, transition or decision",
         ByteChanged: "images with one byte of a section changed",
         TrailerByteChanged: "images with one byte of the trailer changed",
         Exchanged: "images with two records exchanged",
@@ -153,15 +154,15 @@ pub fn case(seed: u64) -> Case {
 fn image(random: &mut Random, sound: &Table, kinds: &mut Vec<Kind>) -> Vec<u8> {
     let mut table = sound.clone();
     let (kind, mut image) = match random.between(0, 99) {
-        0..=69 => {
+        0..=67 => {
             kinds.push(Kind::Sound);
             return table.image();
         }
-        70..=72 => {
+        68..=70 => {
             beyond_a_limit(random, &mut table);
             (Kind::BeyondLimit, table.image())
         }
-        73..=74 => {
+        71..=72 => {
             table.alphabet.retain(|letter| letter[0] != b' ');
             let in_any_order = random.once_in(3);
             if in_any_order {
@@ -170,13 +171,17 @@ fn image(random: &mut Random, sound: &Table, kinds: &mut Vec<Kind>) -> Vec<u8> {
             }
             (if in_any_order { Kind::NoBlankUngrouped } else { Kind::NoBlank }, table.image())
         }
-        75..=78 if !table.entries.is_empty() => {
+        73..=78 if !table.entries.is_empty() => {
             wrong_entry(random, &mut table);
             (Kind::WrongEntry, table.image())
         }
-        79..=80 => {
+        79..=81 => {
             wrong_letter(random, &mut table);
             (Kind::WrongLetter, table.image())
+        }
+        82..=84 => {
+            wrong_rule(random, &mut table);
+            (Kind::WrongRule, table.image())
         }
         _ => damaged(random, &table),
     };
@@ -262,6 +267,16 @@ fn alphabet(random: &mut Random, classes: usize, entries: usize) -> Vec<[u8; 3]>
 
 /// So many strings, some equal and some beginning others, in a random order that keeps the grouping.
 fn grouped_strings(random: &mut Random, symbols: &[u8], count: usize) -> Vec<Vec<u8>> {
+    // In some tables the last string begins with a character that begins no other, so that none stands before it.
+    if count > 0 && symbols.len() > 1 && random.once_in(3) {
+        let mut last = vec![symbols[0]];
+        for _ in 0..random.between(0, 3) {
+            last.push(random.any(symbols));
+        }
+        let mut strings = grouped_strings(random, &symbols[1..], count - 1);
+        strings.push(last);
+        return strings;
+    }
     let few = random.between(1, symbols.len().min(if count >= MANY_ENTRIES { 12 } else { 4 }));
     let mut strings: Vec<Vec<u8>> = vec![];
     while strings.len() < count {
@@ -335,9 +350,12 @@ fn decisions(random: &mut Random, classes: usize, variables: usize) -> Vec<Vec<u
         7..=8 => random.between(0, 20),
         _ => random.any(&[0, 19, 20]),
     };
+    // The more columns, the fewer of them decide, so that the last one is reached.
+    let mut bytes = b"GFYYYNNN".to_vec();
+    bytes.resize(8 + 2 * columns, b'-');
     (0..columns)
         .map(|column| {
-            let bytes: &[u8] = if column + 1 == columns { b"GGGGYN-F" } else { b"GFYYYNNN-----" };
+            let bytes = if column + 1 == columns { b"GGGGYN-F" } else { bytes.as_slice() };
             let of_classes: Vec<u8> = (0..classes).map(|_| random.any(bytes)).collect();
             let of_variables: Vec<u8> = (0..variables).map(|_| random.any(b"YN----")).collect();
             [of_classes, of_variables].concat()
@@ -359,7 +377,7 @@ fn beyond_a_limit(random: &mut Random, table: &mut Table) {
                 symbol += 1;
             }
         }
-        2 if random.once_in(4) => {
+        2 if random.once_in(2) => {
             let last = Entry { string: vec![b' '], context: 0, class: 1, shift: 1, signs: [99; 4] };
             table.entries.resize(1200, last);
         }
@@ -397,7 +415,7 @@ fn wrong_letter(random: &mut Random, table: &mut Table) {
     let (symbol, classes) = (table.alphabet[other][0], table.classes);
     let letter = &mut table.alphabet[chosen];
     match random.between(0, 2) {
-        0 => letter[0] = random.any(&[symbol, symbol, b'|', 0, 10, 31, 32, 126, 127, 255]),
+        0 => letter[0] = random.any(&[symbol, symbol, b'|', b'|', 0, 10, 31, 32, 126, 127, 255]),
         1 => letter[1] = random.any(&[0, 1, classes, classes + 1, 255]),
         _ => letter[2] = random.any(&[0, 64, 65, 70, 73, 98, 99, 100, 255]),
     }
@@ -409,9 +427,10 @@ fn wrong_entry(random: &mut Random, table: &mut Table) {
     let contexts = table.contexts.len() as u8;
     let classes = table.classes;
     let entry = &mut table.entries[chosen];
-    match random.between(0, 6) {
+    let length = entry.string.len() as u8;
+    match random.between(0, 7) {
         0 => entry.class = random.any(&[0, 1, classes, classes + 1, 255]),
-        1 => entry.shift = random.any(&[0, 1, entry.string.len() as u8, entry.string.len() as u8 + 1, 255]),
+        1 => entry.shift = random.any(&[0, 0, 1, length, length + 1, length + 1, 255]),
         2 => entry.context = random.any(&[0, contexts, contexts + 1, 255]),
         3 => {
             let character = entry.string[0];
@@ -424,12 +443,33 @@ fn wrong_entry(random: &mut Random, table: &mut Table) {
             entry.string.resize(11, character);
             entry.context = 0;
         }
-        5 => entry.signs[random.between(0, 3)] = random.any(&[0, 64, 65, 69, 70, 73, 74, 98, 99, 100]),
+        5..=6 => entry.signs[random.between(0, 3)] = random.any(&[0, 64, 65, 69, 70, 73, 74, 98, 99, 100]),
         _ => {
             entry.signs = [1, 1, 1, 1];
             entry.signs[random.between(0, 3)] = 99;
             entry.signs[random.between(0, 3)] = 99;
         }
+    }
+}
+
+/// One byte of a right context, a transition or a decision record: for a context a class on, or just beyond, its
+/// limit, else a byte that some of these records may have.
+fn wrong_rule(random: &mut Random, table: &mut Table) {
+    let (classes, variables) = (table.classes as usize, table.variables as usize);
+    let (records, byte) = match random.between(0, 3) {
+        0 if !table.contexts.is_empty() => {
+            let chosen = random.between(0, table.contexts.len() - 1);
+            let class = random.any(&[0, 1, classes, classes + 1, 255]);
+            table.contexts[chosen][random.between(0, 3)] = class as u8;
+            return;
+        }
+        1 => (&mut table.transitions, random.between(0, classes - 1)),
+        2 if variables > 0 => (&mut table.decisions, classes + random.between(0, variables - 1)),
+        _ => (&mut table.decisions, random.between(0, classes - 1)),
+    };
+    if !records.is_empty() {
+        let chosen = random.between(0, records.len() - 1);
+        records[chosen][byte] = random.any(b"GFYNRST- ");
     }
 }
 
@@ -486,29 +526,37 @@ fn damaged(random: &mut Random, table: &Table) -> (Kind, Vec<u8>) {
             image = if random.once_in(2) { [image, more].concat() } else { [more, image].concat() };
             Kind::Lengthened
         }
+        // with the distances as they were, or as the new length has them
         18 => {
-            let at = start(random.any(&filled));
-            if random.once_in(2) {
-                image.remove(at);
+            let section = random.any(&filled);
+            let won = random.once_in(2);
+            if won {
+                image.insert(start(section), random.next() as u8);
             } else {
-                image.insert(at, random.next() as u8);
+                image.remove(start(section));
+            }
+            if random.once_in(2) {
+                for earlier in 0..=section {
+                    move_distance(&mut image, earlier, won, 1);
+                }
             }
             Kind::ByteMoved
         }
         _ => {
             let section = random.any(&filled);
-            let low = image.len() - 14 + 2 * section;
-            let distance = u16::from_le_bytes([image[low], image[low + 1]]);
-            let moved = if random.once_in(2) {
-                distance.wrapping_sub(sizes[section] as u16)
-            } else {
-                distance.wrapping_add(sizes[section] as u16)
-            };
-            image[low..low + 2].copy_from_slice(&moved.to_le_bytes());
+            move_distance(&mut image, section, random.once_in(2), sizes[section]);
             Kind::DistanceMoved
         }
     };
     (kind, image)
+}
+
+/// Makes the distance of a section longer or shorter by so many bytes.
+fn move_distance(image: &mut [u8], section: usize, longer: bool, bytes: usize) {
+    let low = image.len() - 14 + 2 * section;
+    let distance = u16::from_le_bytes([image[low], image[low + 1]]);
+    let moved = if longer { distance.wrapping_add(bytes as u16) } else { distance.wrapping_sub(bytes as u16) };
+    image[low..low + 2].copy_from_slice(&moved.to_le_bytes());
 }
 
 /// Another byte in place of this one: a neighbour, one that stands on a limit, or any.
@@ -549,7 +597,8 @@ fn text(random: &mut Random, table: &Table, kinds: &mut Vec<Kind>) -> Vec<u8> {
         }
         match random.between(0, 19) {
             0..=12 if !table.entries.is_empty() => {
-                let chosen = random.between(0, table.entries.len() - 1);
+                let last = table.entries.len() - 1;
+                let chosen = if random.once_in(8) { last } else { random.between(0, last) };
                 let string = &table.entries[chosen].string;
                 let kept = if random.once_in(6) { random.between(1, string.len()) } else { string.len() };
                 let (front, back) = string[..kept].split_at(random.between(0, kept));

@@ -437,7 +437,8 @@ impl Table {
         let mut longest = first;
         let mut unnoted = Notes::new();
         for entry in &self.entries {
-            if entry.string.len() > longest.string.len() && self.admissible(planted, entry, rest, states, &mut unnoted) {
+            let longer = entry.string.len() > longest.string.len();
+            if longer && self.admissible(planted, entry, rest, states, &mut unnoted) {
                 longest = entry;
             }
         }
@@ -689,7 +690,8 @@ mod tests {
         let strings: Vec<&[u8]> = vec![b"A", b"B", b"AA", b"AB", b"BA", b"AAA", b"AAB"];
         // All lists of five of these strings.
         for list in 0..strings.len().pow(5) {
-            let chosen: Vec<&[u8]> = (0..5).map(|place| strings[list / strings.len().pow(place) % strings.len()]).collect();
+            let chosen: Vec<&[u8]> =
+                (0..5).map(|place| strings[list / strings.len().pow(place) % strings.len()]).collect();
             let entries: Vec<Entry> = chosen
                 .iter()
                 .map(|string| Entry { string: string.to_vec(), context: 0, class: 1, shift: 1, signs: [99; 4] })

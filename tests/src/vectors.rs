@@ -31,11 +31,12 @@ pub fn run(folder: &str, program: &[String]) -> Result<(), String> {
             let mut own = lent_buffer(case.room);
             let own_answer = emboss(&case.image, &case.text, case.w, case.p, &mut own, &mut Notes::new());
             let own_wrote = &own[..own_answer.written as usize];
+            let wrong = |what: String| Err(format!("{name}: {text}: printed {printed:?}, {what}"));
             if own_answer.number != 0 || own_wrote != printed {
-                return Err(format!("{name}: {text}: printed {printed:?}, the reference has {own_answer:?}, {own_wrote:?}"));
+                return wrong(format!("the reference has {own_answer:?}, {own_wrote:?}"));
             }
             if let Some(difference) = difference(outcome, &(own_answer, own)) {
-                return Err(format!("{name}: {text}: printed {printed:?}, program and reference differ: {difference}"));
+                return wrong(format!("program and reference differ: {difference}"));
             }
         }
         println!("{:>10}  vectors of {name}, no difference", vectors.len());
