@@ -575,10 +575,10 @@ fn text(random: &mut Random, table: &Table, kinds: &mut Vec<Kind>) -> Vec<u8> {
     let length = match random.between(0, 999) {
         0..=39 => random.between(0, 2),
         40..=749 => random.between(3, 60),
-        750..=986 => random.between(40, 400),
-        987..=990 => random.between(400, 5000),
-        991..=994 => random.between(16_380, 16_384),
-        995..=997 => random.between(16_385, 16_388),
+        750..=978 => random.between(40, 400),
+        979..=982 => random.between(400, 5000),
+        983..=993 => random.between(16_385, 16_388),
+        994..=997 => random.between(16_380, 16_384),
         _ => random.any(&[16_383, 16_384, 16_385, LARGEST_TEXT]),
     };
     let mut symbols: Vec<u8> = table.alphabet.iter().map(|letter| letter[0]).collect();
@@ -614,7 +614,8 @@ fn text(random: &mut Random, table: &Table, kinds: &mut Vec<Kind>) -> Vec<u8> {
         }
     }
     text.truncate(length);
-    if !text.is_empty() && random.once_in(16) {
+    let strange = if length > 16_384 { 3 } else { 16 };
+    if !text.is_empty() && random.once_in(strange) {
         kinds.push(Kind::StrangeCharacter);
         for _ in 0..random.between(1, 2) {
             let at = random.between(0, text.len() - 1);
