@@ -2,18 +2,23 @@
 //! and page lengths across and beyond their limits, output rooms around what is needed. The same seed gives
 //! the same case on every machine. Most cases are small; a few reach every limit.
 
-use crate::reference::{emboss, Notes};
+use crate::counts::Notes;
+use crate::reference::emboss;
 use crate::table::{Entry, Table};
 
 /// The limits that the byte form of a case sets.
 pub const LARGEST_IMAGE: usize = 65_536;
 pub const LARGEST_TEXT: usize = 17_000;
-pub const LARGEST_ROOM: usize = 140_000;
+pub const LARGEST_ROOM: usize = 163_840;
+
+/// Tables of this many entries and more have an alphabet of more than the blank and the period.
+const MANY_ENTRIES: usize = 41;
 
 /// What is lent to one call.
 #[derive(Clone, Debug)]
 pub struct Case {
     pub seed: u64,
+    pub kinds: Vec<Kind>,
     pub image: Vec<u8>,
     pub text: Vec<u8>,
     pub w: u64,
@@ -63,39 +68,132 @@ pub fn case_seed(seed: u64, number: u64) -> u64 {
     Random::new(seed ^ number.wrapping_mul(0xD134_2543_DE82_EF95)).next()
 }
 
+counted! {
+    /// What a case is made of: one kind of table, image, text, size and room each.
+    Kind, KIND_WORDS {
+        SmallTable: "tables of 0 to 8 entries",
+        MiddleTable: "tables of 9 to 40 entries",
+        LargeTable: "tables of 41 to 300 entries",
+        HugeTable: "tables of 301 to 1,199 entries",
+        Sound: "images of sound tables",
+        BeyondLimit: "images with one section or number beyond its limit",
+        NoBlank: "images without a record for the blank",
+        NoBlankUngrouped: "images without one and with entries in any order",
+        WrongEntry: "images with a field of an entry on its limit or beyond",
+        WrongLetter: "images with a field of a letter on its limit or beyond",
+        WrongRule: "images with another byte in a context, transition or decision",
+        ByteChanged: "images with one byte of a section changed",
+        TrailerByteChanged: "images with one byte of the trailer changed",
+        Exchanged: "images with two records exchanged",
+        CutShort: "images cut short",
+        Lengthened: "images lengthened",
+        ByteMoved: "images with a byte lost or won in a section",
+        DistanceMoved: "images with a distance moved by a record",
+        TwiceDamaged: "images damaged twice",
+        TextOf0: "texts of 0 to 2 bytes",
+        TextOf3: "texts of 3 to 400 bytes",
+        TextOf401: "texts of 401 to 16,379 bytes",
+        TextOf16380: "texts of 16,380 to 16,384 bytes",
+        TextOver: "texts over 16,384 bytes",
+        StrangeCharacter: "texts with any byte put in",
+        SizesWithin: "W and P within their limits",
+        SizesBeyond: "W or P beyond its limits, both below 256",
+        SizesFar: "W or P of 256 and more",
+        RoomNotAsked: "rooms of refused cases",
+        RoomShort: "rooms shorter by two bytes and more",
+        RoomOneShort: "rooms shorter by one byte",
+        RoomExact: "rooms of the bytes needed",
+        RoomOneMore: "rooms longer by one byte",
+        RoomAmple: "rooms longer by two bytes and more",
+        OverShort: "rooms too short where more than 65,536 bytes are needed",
+        OverEnough: "rooms long enough where more than 65,536 bytes are needed",
+    }
+}
+
 /// The case of a seed.
 pub fn case(seed: u64) -> Case {
     let random = &mut Random::new(seed);
-    let mut table = sound_table(random);
-    let image = match random.between(0, 99) {
-        0..=68 => table.image(),
-        69..=72 => {
-            beyond_a_limit(random, &mut table);
-            table.image()
-        }
-        73..=74 => {
-            table.alphabet.retain(|letter| letter[0] != b' ');
-            table.image()
-        }
-        75..=78 if !table.entries.is_empty() => {
-            let mut damaged = table.clone();
-            wrong_entry(random, &mut damaged);
-            damaged.image()
-        }
-        79..=80 => {
-            let mut damaged = table.clone();
-            wrong_letter(random, &mut damaged);
-            damaged.image()
-        }
-        _ => damaged(random, &table),
+    let mut kinds = vec![];
+    let (table, image, text) = if random.once_in(200) {
+        let (table, text) = much_output(random);
+        kinds.push(Kind::Sound);
+        let image = table.image();
+        (table, image, text)
+    } else {
+        let table = sound_table(random);
+        let image = image(random, &table, &mut kinds);
+        let text = text(random, &table, &mut kinds);
+        (table, image, text)
     };
-    let text = text(random, &table);
+    kinds.push(match table.entries.len() {
+        0..=8 => Kind::SmallTable,
+        9..=40 => Kind::MiddleTable,
+        41..=300 => Kind::LargeTable,
+        _ => Kind::HugeTable,
+    });
+    kinds.push(match text.len() {
+        0..=2 => Kind::TextOf0,
+        3..=400 => Kind::TextOf3,
+        401..=16_379 => Kind::TextOf401,
+        16_380..=16_384 => Kind::TextOf16380,
+        _ => Kind::TextOver,
+    });
     let (w, p) = (width(random), page_length(random));
-    let room = room(random, &image, &text, w, p);
-    Case { seed, image, text, w, p, room }
+    kinds.push(match (w, p) {
+        (8..=60, 2..=40) => Kind::SizesWithin,
+        (0..=255, 0..=255) => Kind::SizesBeyond,
+        _ => Kind::SizesFar,
+    });
+    let room = room(random, &image, &text, w, p, &mut kinds);
+    Case { seed, kinds, image, text, w, p, room }
 }
 
 // Tables
+
+/// The image of a sound table, in three cases of ten with something wrong in it.
+fn image(random: &mut Random, sound: &Table, kinds: &mut Vec<Kind>) -> Vec<u8> {
+    let mut table = sound.clone();
+    let (kind, mut image) = match random.between(0, 99) {
+        0..=67 => {
+            kinds.push(Kind::Sound);
+            return table.image();
+        }
+        68..=70 => {
+            beyond_a_limit(random, &mut table);
+            (Kind::BeyondLimit, table.image())
+        }
+        71..=72 => {
+            table.alphabet.retain(|letter| letter[0] != b' ');
+            let in_any_order = random.once_in(3);
+            if in_any_order {
+                table.entries.retain(|entry| !entry.string.contains(&b' '));
+                random.shuffle(&mut table.entries);
+            }
+            (if in_any_order { Kind::NoBlankUngrouped } else { Kind::NoBlank }, table.image())
+        }
+        73..=78 if !table.entries.is_empty() => {
+            wrong_entry(random, &mut table);
+            (Kind::WrongEntry, table.image())
+        }
+        79..=81 => {
+            wrong_letter(random, &mut table);
+            (Kind::WrongLetter, table.image())
+        }
+        82..=84 => {
+            wrong_rule(random, &mut table);
+            (Kind::WrongRule, table.image())
+        }
+        _ => damaged(random, &table),
+    };
+    if !image.is_empty() && random.once_in(8) {
+        let at = random.between(0, image.len() - 1);
+        image[at] = one_byte(random, image[at]);
+        kinds.push(Kind::TwiceDamaged);
+    } else {
+        kinds.push(kind);
+    }
+    image
+}
 
 fn sound_table(random: &mut Random) -> Table {
     let classes = match random.between(0, 9) {
@@ -111,9 +209,9 @@ fn sound_table(random: &mut Random) -> Table {
     let entries = match random.between(0, 999) {
         0..=599 => random.between(0, 8),
         600..=949 => random.between(5, 40),
-        950..=991 => random.between(30, 300),
-        992..=994 => random.between(300, 1199),
-        _ => random.any(&[1197, 1198, 1199]),
+        950..=984 => random.between(30, 300),
+        985..=992 => random.between(300, 1199),
+        _ => random.any(&[1197, 1198, 1199, 1199]),
     };
     let alphabet = alphabet(random, classes, entries);
     let contexts: Vec<[u8; 4]> =
@@ -141,7 +239,7 @@ fn sound_table(random: &mut Random) -> Table {
 fn alphabet(random: &mut Random, classes: usize, entries: usize) -> Vec<[u8; 3]> {
     let mut symbols: Vec<u8> = (33..=126).filter(|symbol| *symbol != b'|' && *symbol != b'.').collect();
     random.shuffle(&mut symbols);
-    let least = if entries > 40 { 4 } else { 0 };
+    let least = if entries >= MANY_ENTRIES { 4 } else { 0 };
     let letters = match random.between(0, 9) {
         0..=6 => random.between(least, 8),
         7..=8 => random.between(least, 40),
@@ -169,7 +267,17 @@ fn alphabet(random: &mut Random, classes: usize, entries: usize) -> Vec<[u8; 3]>
 
 /// So many strings, some equal and some beginning others, in a random order that keeps the grouping.
 fn grouped_strings(random: &mut Random, symbols: &[u8], count: usize) -> Vec<Vec<u8>> {
-    let few = random.between(1, symbols.len().min(if count > 40 { 12 } else { 4 }));
+    // In some tables the last string begins with a character that begins no other, so that none stands before it.
+    if count > 0 && symbols.len() > 1 && random.once_in(3) {
+        let mut last = vec![symbols[0]];
+        for _ in 0..random.between(0, 3) {
+            last.push(random.any(symbols));
+        }
+        let mut strings = grouped_strings(random, &symbols[1..], count - 1);
+        strings.push(last);
+        return strings;
+    }
+    let few = random.between(1, symbols.len().min(if count >= MANY_ENTRIES { 12 } else { 4 }));
     let mut strings: Vec<Vec<u8>> = vec![];
     while strings.len() < count {
         let from = if random.once_in(3) { symbols } else { &symbols[..few] };
@@ -242,9 +350,12 @@ fn decisions(random: &mut Random, classes: usize, variables: usize) -> Vec<Vec<u
         7..=8 => random.between(0, 20),
         _ => random.any(&[0, 19, 20]),
     };
+    // The more columns, the fewer of them decide, so that the last one is reached.
+    let mut bytes = b"GFYYYNNN".to_vec();
+    bytes.resize(8 + 2 * columns, b'-');
     (0..columns)
         .map(|column| {
-            let bytes: &[u8] = if column + 1 == columns { b"GGGGYN-F" } else { b"GFYYYNNN-----" };
+            let bytes = if column + 1 == columns { b"GGGGYN-F" } else { bytes.as_slice() };
             let of_classes: Vec<u8> = (0..classes).map(|_| random.any(bytes)).collect();
             let of_variables: Vec<u8> = (0..variables).map(|_| random.any(b"YN----")).collect();
             [of_classes, of_variables].concat()
@@ -266,7 +377,7 @@ fn beyond_a_limit(random: &mut Random, table: &mut Table) {
                 symbol += 1;
             }
         }
-        2 if random.once_in(4) => {
+        2 if random.once_in(2) => {
             let last = Entry { string: vec![b' '], context: 0, class: 1, shift: 1, signs: [99; 4] };
             table.entries.resize(1200, last);
         }
@@ -304,7 +415,7 @@ fn wrong_letter(random: &mut Random, table: &mut Table) {
     let (symbol, classes) = (table.alphabet[other][0], table.classes);
     let letter = &mut table.alphabet[chosen];
     match random.between(0, 2) {
-        0 => letter[0] = random.any(&[symbol, symbol, b'|', 0, 10, 31, 32, 126, 127, 255]),
+        0 => letter[0] = random.any(&[symbol, symbol, b'|', b'|', 0, 10, 31, 32, 126, 127, 255]),
         1 => letter[1] = random.any(&[0, 1, classes, classes + 1, 255]),
         _ => letter[2] = random.any(&[0, 64, 65, 70, 73, 98, 99, 100, 255]),
     }
@@ -316,9 +427,10 @@ fn wrong_entry(random: &mut Random, table: &mut Table) {
     let contexts = table.contexts.len() as u8;
     let classes = table.classes;
     let entry = &mut table.entries[chosen];
-    match random.between(0, 6) {
+    let length = entry.string.len() as u8;
+    match random.between(0, 7) {
         0 => entry.class = random.any(&[0, 1, classes, classes + 1, 255]),
-        1 => entry.shift = random.any(&[0, 1, entry.string.len() as u8, entry.string.len() as u8 + 1, 255]),
+        1 => entry.shift = random.any(&[0, 0, 1, length, length + 1, length + 1, 255]),
         2 => entry.context = random.any(&[0, contexts, contexts + 1, 255]),
         3 => {
             let character = entry.string[0];
@@ -331,7 +443,7 @@ fn wrong_entry(random: &mut Random, table: &mut Table) {
             entry.string.resize(11, character);
             entry.context = 0;
         }
-        5 => entry.signs[random.between(0, 3)] = random.any(&[0, 64, 65, 69, 70, 73, 74, 98, 99, 100]),
+        5..=6 => entry.signs[random.between(0, 3)] = random.any(&[0, 64, 65, 69, 70, 73, 74, 98, 99, 100]),
         _ => {
             entry.signs = [1, 1, 1, 1];
             entry.signs[random.between(0, 3)] = 99;
@@ -340,31 +452,49 @@ fn wrong_entry(random: &mut Random, table: &mut Table) {
     }
 }
 
-/// The image of a sound table, damaged.
-fn damaged(random: &mut Random, table: &Table) -> Vec<u8> {
+/// One byte of a right context, a transition or a decision record: for a context a class on, or just beyond, its
+/// limit, else a byte that some of these records may have.
+fn wrong_rule(random: &mut Random, table: &mut Table) {
+    let (classes, variables) = (table.classes as usize, table.variables as usize);
+    let (records, byte) = match random.between(0, 3) {
+        0 if !table.contexts.is_empty() => {
+            let chosen = random.between(0, table.contexts.len() - 1);
+            let class = random.any(&[0, 1, classes, classes + 1, 255]);
+            table.contexts[chosen][random.between(0, 3)] = class as u8;
+            return;
+        }
+        1 => (&mut table.transitions, random.between(0, classes - 1)),
+        2 if variables > 0 => (&mut table.decisions, classes + random.between(0, variables - 1)),
+        _ => (&mut table.decisions, random.between(0, classes - 1)),
+    };
+    if !records.is_empty() {
+        let chosen = random.between(0, records.len() - 1);
+        records[chosen][byte] = random.any(b"GFYNRST- ");
+    }
+}
+
+/// The image of a sound table, damaged in one of its bytes, its records, its length or its distances.
+fn damaged(random: &mut Random, table: &Table) -> (Kind, Vec<u8>) {
     let mut image = table.image();
     let sections = table.sections();
     let classes = table.classes as usize;
     let sizes = [3, 18, 4, classes, classes + table.variables as usize];
     let start = |section: usize| sections[..section].iter().map(Vec::len).sum::<usize>();
     let filled: Vec<usize> = (0..5).filter(|section| !sections[*section].is_empty()).collect();
-    match random.between(0, 19) {
-        // one byte of a section, or two
-        0..=9 => {
-            let bytes = if random.once_in(10) { 2 } else { 1 };
-            for _ in 0..bytes {
-                let section = random.any(&filled);
-                let at = start(section) + random.between(0, sections[section].len() - 1);
-                image[at] = one_byte(random, image[at]);
-            }
+    let kind = match random.between(0, 19) {
+        0..=8 => {
+            let section = random.any(&filled);
+            let at = start(section) + random.between(0, sections[section].len() - 1);
+            image[at] = one_byte(random, image[at]);
+            Kind::ByteChanged
         }
-        // one byte of the trailer
-        10..=11 => {
+        9..=10 => {
             let at = image.len() - random.between(1, 14);
             image[at] = one_byte(random, image[at]);
+            Kind::TrailerByteChanged
         }
-        // two records of a section, mostly the contractions, exchanged
-        12..=16 => {
+        // mostly two contractions
+        11..=15 => {
             let section = if random.once_in(4) || sections[1].is_empty() { random.any(&filled) } else { 1 };
             let size = sizes[section];
             let records = sections[section].len() / size;
@@ -372,9 +502,10 @@ fn damaged(random: &mut Random, table: &Table) -> Vec<u8> {
             for byte in 0..size {
                 image.swap(start(section) + one * size + byte, start(section) + other * size + byte);
             }
+            Kind::Exchanged
         }
-        // cut short, at the end or at the front
-        17 => {
+        // at the end or at the front
+        16 => {
             let length = image.len();
             let dropped = match random.between(0, 3) {
                 0 => random.between(1, length),
@@ -386,36 +517,46 @@ fn damaged(random: &mut Random, table: &Table) -> Vec<u8> {
             } else {
                 image.drain(..dropped);
             }
+            Kind::CutShort
         }
-        // lengthened, at the end or at the front
-        18 => {
-            let most = if random.once_in(100) { LARGEST_IMAGE - image.len() } else { 40 };
+        // at the end or at the front
+        17 => {
+            let most = if random.once_in(20) { LARGEST_IMAGE - image.len() } else { 40 };
             let more: Vec<u8> = (0..random.between(1, most)).map(|_| random.next() as u8).collect();
             image = if random.once_in(2) { [image, more].concat() } else { [more, image].concat() };
+            Kind::Lengthened
         }
-        // a byte lost or won inside a section, or a distance moved by a whole record
-        _ => {
+        // with the distances as they were, or as the new length has them
+        18 => {
             let section = random.any(&filled);
-            let at = start(section);
-            match random.between(0, 2) {
-                0 => {
-                    image.remove(at);
-                }
-                1 => image.insert(at, random.next() as u8),
-                _ => {
-                    let low = image.len() - 14 + 2 * section;
-                    let distance = u16::from_le_bytes([image[low], image[low + 1]]);
-                    let moved = if random.once_in(2) {
-                        distance.wrapping_sub(sizes[section] as u16)
-                    } else {
-                        distance.wrapping_add(sizes[section] as u16)
-                    };
-                    image[low..low + 2].copy_from_slice(&moved.to_le_bytes());
+            let won = random.once_in(2);
+            if won {
+                image.insert(start(section), random.next() as u8);
+            } else {
+                image.remove(start(section));
+            }
+            if random.once_in(2) {
+                for earlier in 0..=section {
+                    move_distance(&mut image, earlier, won, 1);
                 }
             }
+            Kind::ByteMoved
         }
-    }
-    image
+        _ => {
+            let section = random.any(&filled);
+            move_distance(&mut image, section, random.once_in(2), sizes[section]);
+            Kind::DistanceMoved
+        }
+    };
+    (kind, image)
+}
+
+/// Makes the distance of a section longer or shorter by so many bytes.
+fn move_distance(image: &mut [u8], section: usize, longer: bool, bytes: usize) {
+    let low = image.len() - 14 + 2 * section;
+    let distance = u16::from_le_bytes([image[low], image[low + 1]]);
+    let moved = if longer { distance.wrapping_add(bytes as u16) } else { distance.wrapping_sub(bytes as u16) };
+    image[low..low + 2].copy_from_slice(&moved.to_le_bytes());
 }
 
 /// Another byte in place of this one: a neighbour, one that stands on a limit, or any.
@@ -430,14 +571,14 @@ fn one_byte(random: &mut Random, byte: u8) -> u8 {
 
 // Texts
 
-fn text(random: &mut Random, table: &Table) -> Vec<u8> {
+fn text(random: &mut Random, table: &Table, kinds: &mut Vec<Kind>) -> Vec<u8> {
     let length = match random.between(0, 999) {
         0..=39 => random.between(0, 2),
         40..=749 => random.between(3, 60),
-        750..=986 => random.between(40, 400),
-        987..=990 => random.between(400, 5000),
-        991..=994 => random.between(16_380, 16_384),
-        995..=997 => random.between(16_385, 16_388),
+        750..=978 => random.between(40, 400),
+        979..=982 => random.between(400, 5000),
+        983..=993 => random.between(16_385, 16_388),
+        994..=997 => random.between(16_380, 16_384),
         _ => random.any(&[16_383, 16_384, 16_385, LARGEST_TEXT]),
     };
     let mut symbols: Vec<u8> = table.alphabet.iter().map(|letter| letter[0]).collect();
@@ -456,17 +597,26 @@ fn text(random: &mut Random, table: &Table) -> Vec<u8> {
         }
         match random.between(0, 19) {
             0..=12 if !table.entries.is_empty() => {
-                let chosen = random.between(0, table.entries.len() - 1);
+                let last = table.entries.len() - 1;
+                let chosen = if random.once_in(8) { last } else { random.between(0, last) };
                 let string = &table.entries[chosen].string;
                 let kept = if random.once_in(6) { random.between(1, string.len()) } else { string.len() };
-                text.extend(&string[..kept]);
+                let (front, back) = string[..kept].split_at(random.between(0, kept));
+                text.extend(front);
+                // A bar in a string is dropped before the search.
+                if random.once_in(8) {
+                    text.push(b'|');
+                }
+                text.extend(back);
             }
             13 => text.push(random.any(b"|\n")),
             _ => text.push(random.any(&symbols)),
         }
     }
     text.truncate(length);
-    if !text.is_empty() && random.once_in(16) {
+    let strange = if length > 16_384 { 3 } else { 16 };
+    if !text.is_empty() && random.once_in(strange) {
+        kinds.push(Kind::StrangeCharacter);
         for _ in 0..random.between(1, 2) {
             let at = random.between(0, text.len() - 1);
             text[at] = match random.between(0, 2) {
@@ -479,12 +629,30 @@ fn text(random: &mut Random, table: &Table) -> Vec<u8> {
     text
 }
 
+/// A table each of whose entries prints as much as four signs can, and a long text of its strings: up to nine
+/// bytes for each character, some 147,500 in all.
+fn much_output(random: &mut Random) -> (Table, Vec<u8>) {
+    let mut table = sound_table(random);
+    let (classes, variables) = (table.classes as usize, table.variables as usize);
+    table.decisions = vec![[vec![b'G'; classes], vec![b'-'; variables]].concat()];
+    table.alphabet = alphabet(random, classes, MANY_ENTRIES);
+    table.entries.clear();
+    for letter in &table.alphabet {
+        let (one, other) = (random.any(&[72, 72, 72, 71, 73]), random.any(&[72, 72, 72, 71, 73]));
+        let signs = [one, random.between(1, 63) as u8, other, random.between(1, 63) as u8];
+        table.entries.push(Entry { string: vec![letter[0]], context: 0, class: letter[1], shift: 1, signs });
+    }
+    let letters: Vec<u8> = table.alphabet.iter().map(|letter| letter[0]).filter(|symbol| *symbol != b' ').collect();
+    let length = if random.once_in(3) { 16_384 } else { random.between(12_000, 16_384) };
+    let text = (0..length).map(|_| random.any(&letters)).collect();
+    (table, text)
+}
+
 // Widths, page lengths, rooms
 
 fn width(random: &mut Random) -> u64 {
     match random.between(0, 49) {
-        0 => random.any(&[0, 1, 7, 61, 64, 255, 264, 1 << 32, (1 << 32) + 8, u64::MAX]),
-        1 => random.any(&[7, 61]),
+        0..=1 => beyond(random, &[0, 1, 7, 7, 61, 61, 64, 255], 8, 60),
         2..=5 => random.any(&[8, 9, 59, 60]),
         6..=30 => random.between(8, 14) as u64,
         _ => random.between(8, 60) as u64,
@@ -493,28 +661,58 @@ fn width(random: &mut Random) -> u64 {
 
 fn page_length(random: &mut Random) -> u64 {
     match random.between(0, 49) {
-        0 => random.any(&[0, 1, 41, 42, 255, 258, 1 << 32, (1 << 32) + 2, u64::MAX]),
-        1 => random.any(&[1, 41]),
+        0..=1 => beyond(random, &[0, 1, 1, 41, 41, 42, 64, 255], 2, 40),
         2..=5 => random.any(&[2, 3, 39, 40]),
         6..=35 => random.between(2, 6) as u64,
         _ => random.between(2, 40) as u64,
     }
 }
 
-fn room(random: &mut Random, image: &[u8], text: &[u8], w: u64, p: u64) -> usize {
-    let mut ample = vec![0; 160_000];
-    let answer = emboss(image, text, w, p, &mut ample, &mut Notes::new());
-    let needed = answer.written as usize;
+/// One of these numbers, or a large one: its low 8, 16, 32 or 63 bits are within the limits, or it is any.
+fn beyond(random: &mut Random, near: &[u64], low: usize, high: usize) -> u64 {
+    let within = random.between(low, high) as u64;
+    let bits = random.any(&[8, 16, 32, 63]);
+    let far = random.next();
+    match random.between(0, 7) {
+        0..=3 => random.any(near),
+        4..=5 => (far << bits).max(1 << bits) + within,
+        6 => far,
+        _ => u64::MAX,
+    }
+}
+
+fn room(random: &mut Random, image: &[u8], text: &[u8], w: u64, p: u64, kinds: &mut Vec<Kind>) -> usize {
+    let without_room = emboss(image, text, w, p, &mut [], &mut Notes::new());
+    let needed = match without_room.number {
+        0 => 0,
+        8 => without_room.place as usize,
+        _ => {
+            kinds.push(Kind::RoomNotAsked);
+            return random.any(&[0, 1, 40, 200]);
+        }
+    };
     let room = match random.between(0, 39) {
         0..=1 => needed.saturating_sub(1),
         2 => random.between(0, needed),
         3 => needed / 2,
-        4 if random.once_in(20) => random.between(needed, needed.max(LARGEST_ROOM)),
-        4..=20 => needed,
+        4 if random.once_in(20) => random.between(needed, LARGEST_ROOM),
+        4 => random.between(needed.saturating_sub(9), needed + 9),
+        5..=9 if needed > 65_536 => random.any(&[65_536, needed - 1]),
+        5..=20 => needed,
         21..=24 => needed + 1,
         _ => needed + random.between(0, 40),
     };
-    room.min(LARGEST_ROOM)
+    kinds.push(match room as i64 - needed as i64 {
+        -1 => Kind::RoomOneShort,
+        0 => Kind::RoomExact,
+        1 => Kind::RoomOneMore,
+        2.. => Kind::RoomAmple,
+        _ => Kind::RoomShort,
+    });
+    if needed > 65_536 {
+        kinds.push(if room < needed { Kind::OverShort } else { Kind::OverEnough });
+    }
+    room
 }
 
 #[cfg(test)]

@@ -3,6 +3,8 @@
 //! has the byte form of a case. It also writes table images from their readable form, and runs the outside
 //! vectors.
 
+#[macro_use]
+mod counts;
 mod generate;
 mod reference;
 mod table;
@@ -11,8 +13,9 @@ mod vectors;
 #[cfg(test)]
 mod paper;
 
-use generate::{case, case_seed, Case};
-use reference::{emboss, emboss_planted, Answer, Notes, Planted, EVENT_WORDS};
+use counts::{Notes, EVENT_WORDS};
+use generate::{case, case_seed, Case, KIND_WORDS};
+use reference::{emboss, emboss_planted, Answer, Planted};
 use std::io::{Read, Write};
 use std::process::{exit, Command, Stdio};
 
@@ -139,7 +142,7 @@ fn read_case(bytes: &mut &[u8]) -> Option<Case> {
     let (image, text) = (take_u32(bytes)?, take_u32(bytes)?);
     let (w, p, room) = (take_u64(bytes)?, take_u64(bytes)?, take_u32(bytes)?);
     let (image, text) = (take(bytes, image)?.to_vec(), take(bytes, text)?.to_vec());
-    Some(Case { seed: 0, image, text, w, p, room })
+    Some(Case { seed: 0, kinds: vec![], image, text, w, p, room })
 }
 
 fn read_answer(bytes: &mut &[u8], room: usize) -> Option<(Answer, Vec<u8>)> {
@@ -234,15 +237,15 @@ pub fn run_program<T>(
 
 // The random comparison
 
-#[derive(Default)]
 struct Counts {
     cases: u64,
+    kinds: [u64; KIND_WORDS.len()],
     answers: [u64; 9],
     with_cells: u64,
 }
 
 fn compare(settings: &Settings) -> Result<(), String> {
-    let mut counts = Counts::default();
+    let mut counts = Counts { cases: 0, kinds: [0; KIND_WORDS.len()], answers: [0; 9], with_cells: 0 };
     let mut notes = Notes::new();
     while counts.cases < settings.cases {
         let upto = settings.cases.min(counts.cases + settings.batch);
@@ -260,6 +263,9 @@ fn compare(settings: &Settings) -> Result<(), String> {
                 println!("  program   {:?}", answer.0);
                 println!("  reference {:?}", own.0);
                 return Err(format!("a difference: {difference}"));
+            }
+            for kind in &case.kinds {
+                counts.kinds[*kind as usize] += 1;
             }
             counts.answers[own.0.number as usize] += 1;
             if own.0.number == 0 {
@@ -311,6 +317,9 @@ fn report(settings: &Settings, counts: &Counts, notes: &Notes) -> Result<(), Str
         }
     };
     line(counts.cases, "cases, no difference");
+    for (count, words) in counts.kinds.iter().zip(KIND_WORDS) {
+        line(*count, words);
+    }
     for (answer, count) in counts.answers.iter().enumerate() {
         line(*count, &format!("answer {answer}"));
     }

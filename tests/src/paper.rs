@@ -1,6 +1,7 @@
 //! The paper's own examples and corners, by its table of 218 bytes, asked of the reference.
 
-use crate::reference::{emboss, emboss_planted, Answer, Notes, Planted};
+use crate::counts::Notes;
+use crate::reference::{emboss, emboss_planted, Answer, Planted};
 use crate::table;
 
 fn image() -> Vec<u8> {

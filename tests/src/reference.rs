@@ -1,9 +1,12 @@
 //! Document 01 written again, straight from the paper and for clarity, so that the proved program has
-//! something to be compared with. It copies the table into plain lists and searches them from the front;
-//! it promises the paper's answer and nothing about speed. `Planted` puts one of the paper's four "errors
-//! an implementer will be drawn to" in, to see that the comparison finds it.
+//! something to be compared with. It copies the table into plain lists and searches them from the front; it
+//! promises the paper's answer and nothing about speed. Each part stands under the paper's heading, and its
+//! comments are the paper's words. `Planted` puts one of the paper's four "errors an implementer will be drawn
+//! to" in, to see that the comparison finds it; `Notes` counts what was met and changes nothing.
 
-/// What comes back. When refused, all but number and place are 0.
+use crate::counts::{Event, Notes};
+
+/// The answer holds number, place, bytes written, pieces, lines (64s), pages (65s).
 #[derive(Clone, Copy, Debug, Default, PartialEq, Eq)]
 pub struct Answer {
     pub number: u8,
@@ -18,146 +21,14 @@ pub struct Answer {
 #[derive(Clone, Copy, Debug, PartialEq, Eq)]
 pub enum Planted {
     Nothing,
-    /// Taking the longest entry in place of the first.
+    /// Taking the longest entry.
     LongestEntry,
-    /// Testing the right context after the shift in place of after the whole string.
+    /// Testing the right context after the shift.
     ContextAfterShift,
     /// Asking the decision table with the states after the piece.
     StatesAfterPiece,
     /// Writing the blank line of 71 at the top of a page.
     BlankLineAtTop,
-}
-
-macro_rules! events {
-    ($($name:ident: $words:expr,)*) => {
-        /// Something that happened on the way to an answer.
-        #[derive(Clone, Copy, Debug)]
-        pub enum Event { $($name),* }
-
-        /// The words for each event, in the order of `Event`.
-        pub const EVENT_WORDS: &[&str] = &[$($words),*];
-    };
-}
-
-events! {
-    WrongAlphabet: "answer 2 in the alphabet",
-    WrongContraction: "answer 2 in the contractions",
-    WrongContext: "answer 2 in the right contexts",
-    WrongTransition: "answer 2 in the transitions",
-    WrongDecision: "answer 2 in the decisions",
-    UnderTrailer: "images under 14 bytes",
-    AloneMark: "wrong alone: the trailer's last two bytes",
-    AloneClasses: "wrong alone: the number of classes",
-    AloneVariables: "wrong alone: the number of state variables",
-    AloneFirstDistance: "wrong alone: the first distance",
-    AloneRise: "wrong alone: a distance that rises",
-    AloneWhole: "wrong alone: a section of broken records",
-    AloneLetters: "wrong alone: the number of alphabet records",
-    AloneEntries: "wrong alone: the number of contractions",
-    AloneContexts: "wrong alone: the number of right contexts",
-    AloneTransitions: "wrong alone: the number of transitions",
-    AloneColumns: "wrong alone: the number of decisions",
-    AloneSymbol: "wrong alone: a symbol outside 32..126",
-    AloneBar: "wrong alone: the symbol |",
-    AloneRepeated: "wrong alone: a symbol of an earlier record",
-    AloneLetterClass: "wrong alone: the class of an alphabet record",
-    AloneLetterSign: "wrong alone: the sign of an alphabet record",
-    AloneLength: "wrong alone: the length of a string",
-    AloneString: "wrong alone: a string's character",
-    AlonePast: "wrong alone: a byte past the string",
-    AloneNoContext: "wrong alone: a right context that does not exist",
-    AloneContextAtTen: "wrong alone: a right context after ten characters",
-    AloneEntryClass: "wrong alone: the class of an entry",
-    AloneShift: "wrong alone: a shift",
-    AloneSign: "wrong alone: a sign of an entry",
-    AloneAfter99: "wrong alone: a sign after a 99",
-    AloneVariableByte: "wrong alone: a decision byte for a variable",
-    AloneClassByte: "wrong alone: a decision byte for a class",
-    FullAlphabet: "tables of 63 alphabet records",
-    FullContractions: "tables of 1,199 entries",
-    FullContexts: "tables of 5 right contexts",
-    FullVariables: "tables of 15 state variables",
-    FullDecisions: "tables of 20 decision columns",
-    FullClasses: "tables of 40 classes",
-    NoEntry: "tables of no entry",
-    NoColumn: "tables of no decision column",
-    FullText: "texts of 16,384 bytes",
-    BarDropped: "bars dropped",
-    LineFeedTurned: "line feeds turned into blanks",
-    BlankDropped: "blanks dropped from a run",
-    SecondBlankKept: "second blanks kept after a period",
-    EntryPiece: "pieces of an entry",
-    AlphabetPiece: "pieces of an alphabet record",
-    ContextRejects: "entries rejected by their right context",
-    ContextAtEnd: "right contexts asked past the end of the text",
-    DecisionRejects: "entries rejected by the decision table",
-    AcceptedByG: "accepted by G",
-    AcceptedByY: "accepted by Y",
-    RejectedByF: "rejected by F",
-    RejectedByN: "rejected by N",
-    NoColumnLeft: "rejected with no column left",
-    ShiftShorter: "shifts shorter than the string",
-    NotLongest: "pieces of an entry while a longer one is admissible",
-    EntryPrintsNothing: "pieces whose signs are all 99",
-    VariableReset: "variables moved by R from yes to no",
-    VariableSet: "variables moved by S from no to yes",
-    VariableTurned: "variables moved by T",
-    Sign0: "signs 0",
-    Sign64: "signs 64",
-    Sign70: "signs 70",
-    Sign71: "signs 71",
-    Sign72: "signs 72",
-    Sign73: "signs 73",
-    WordCut: "words cut",
-    WordCutEven: "words cut with no rest",
-    ParagraphColumn0: "paragraphs in column 0",
-    ParagraphColumn2: "paragraphs in column 2",
-    ParagraphWaits: "paragraphs that wait through another format sign",
-    LineFull: "lines filled to W exactly",
-    LineEndedByWord: "lines ended because the next word does not fit",
-    EmptyLine: "empty lines written",
-    EmptyLineSuppressed: "empty lines suppressed at the top of a page",
-    PageEndedByP: "pages ended by P",
-    PageEndedBy73: "pages ended by 73",
-    PageEndedByText: "pages ended by the end of the text",
-}
-
-/// How often each event happened.
-#[derive(Clone, Debug)]
-pub struct Notes {
-    pub counts: Vec<u64>,
-}
-
-impl Notes {
-    pub fn new() -> Notes {
-        Notes { counts: vec![0; EVENT_WORDS.len()] }
-    }
-
-    fn note(&mut self, event: Event) {
-        self.counts[event as usize] += 1;
-    }
-
-    pub fn add(&mut self, other: &Notes) {
-        for (mine, theirs) in self.counts.iter_mut().zip(&other.counts) {
-            *mine += theirs;
-        }
-    }
-
-    /// Only what was wrong with the table, for a case that was refused.
-    pub fn add_wrong_table(&mut self, other: &Notes) {
-        for event in 0..=Event::AloneClassByte as usize {
-            self.counts[event] += other.counts[event];
-        }
-    }
-
-    /// Whether all these rules are kept; notes the one that is broken alone.
-    fn kept(&mut self, rules: &[(Event, bool)]) -> bool {
-        let broken: Vec<Event> = rules.iter().filter(|(_, kept)| !kept).map(|(event, _)| *event).collect();
-        if broken.len() == 1 {
-            self.note(broken[0]);
-        }
-        broken.is_empty()
-    }
 }
 
 /// A refusal: its number and its place.
@@ -171,32 +42,7 @@ const NO_CELL: u8 = 99;
 const TRAILER: usize = 14;
 const LONGEST_TEXT: usize = 16_384;
 
-struct Letter {
-    symbol: u8,
-    class: u8,
-    sign: u8,
-}
-
-struct Entry {
-    string: Vec<u8>,
-    context: usize,
-    class: u8,
-    shift: usize,
-    signs: [u8; 4],
-}
-
-struct Column {
-    classes: Vec<u8>,
-    variables: Vec<u8>,
-}
-
-struct Table {
-    letters: Vec<Letter>,
-    entries: Vec<Entry>,
-    contexts: Vec<Vec<u8>>,
-    transitions: Vec<Vec<u8>>,
-    columns: Vec<Column>,
-}
+// What comes back
 
 /// The whole call: reads the table, collapses and translates the text, lays it out with lines of `w` cells
 /// and pages of `p` lines, and writes the bytes to the front of `out`.
@@ -215,7 +61,9 @@ pub fn emboss_planted(
     notes: &mut Notes,
 ) -> Answer {
     match press(planted, image, text, w, p, out.len(), notes) {
+        // When refused, all but number and place are 0 and the output is as it was.
         Err((number, place)) => Answer { number, place, ..Answer::default() },
+        // When done, place is 0 and output beyond the written bytes is as it was.
         Ok((bytes, pieces)) => {
             out[..bytes.len()].copy_from_slice(&bytes);
             let count = |mark: u8| bytes.iter().filter(|byte| **byte == mark).count() as u64;
@@ -224,7 +72,7 @@ pub fn emboss_planted(
     }
 }
 
-/// The refusals in the paper's order; with none, the bytes to write and the number of pieces.
+/// The refusals, checked in the paper's order; with none, the bytes to write and the number of pieces.
 fn press(
     planted: Planted,
     image: &[u8],
@@ -234,13 +82,18 @@ fn press(
     room: usize,
     notes: &mut Notes,
 ) -> Result<(Vec<u8>, u64), Refusal> {
+    // 1 to 4
     let table = open(image, notes)?;
+    // 5: W or P outside its limits
     if !(8..=60).contains(&w) || !(2..=40).contains(&p) {
         return Err((5, 0));
     }
+    // 6: text over 16,384 bytes
     if text.len() > LONGEST_TEXT {
         return Err((6, LONGEST_TEXT as u64));
     }
+    // 7: character without alphabet record, at the first one in the text as lent. Bars are dropped, and line
+    // feeds become blanks, which have a record.
     for (offset, &byte) in text.iter().enumerate() {
         if byte != BAR && byte != LINE_FEED && table.letter(byte).is_none() {
             return Err((7, offset as u64));
@@ -252,6 +105,7 @@ fn press(
     let collapsed = collapse(text, notes);
     let (signs, pieces) = table.translate(planted, &collapsed, notes);
     let bytes = lay_out(planted, &signs, w as usize, p as usize, notes);
+    // 8: output too short, at the bytes needed
     if bytes.len() > room {
         return Err((8, bytes.len() as u64));
     }
@@ -260,18 +114,51 @@ fn press(
 
 // The table image
 
+/// An alphabet record.
+struct Letter {
+    symbol: u8,
+    class: u8,
+    sign: u8,
+}
+
+/// A contraction record.
+struct Entry {
+    string: Vec<u8>,
+    context: usize,
+    class: u8,
+    shift: usize,
+    signs: [u8; 4],
+}
+
+/// A decision record: one byte per class, then one per state variable.
+struct Column {
+    classes: Vec<u8>,
+    variables: Vec<u8>,
+}
+
+struct Table {
+    letters: Vec<Letter>,
+    entries: Vec<Entry>,
+    /// The four classes of each right context.
+    contexts: Vec<Vec<u8>>,
+    /// One byte per class for each state variable.
+    transitions: Vec<Vec<u8>>,
+    columns: Vec<Column>,
+}
+
 /// Reads an image: refusals 1 to 4, or its table.
 fn open(image: &[u8], notes: &mut Notes) -> Result<Table, Refusal> {
-    let sections = sections(image, notes).ok_or((1, 0))?;
-    let Sections { starts, classes, variables } = sections;
-    let records = |section: usize, size: usize| -> Vec<(u64, &[u8])> {
+    // 1: image under 14 bytes, or trailer or section lengths wrong
+    let Sections { starts, classes, variables } = sections(image, notes).ok_or((1, 0))?;
+    let records = |section: usize, size: usize| {
         let (from, to) = (starts[section], starts[section + 1]);
-        (from..to).step_by(size).map(|at| (at as u64, &image[at..at + size])).collect()
+        (from..to).step_by(size).map(move |offset| (offset as u64, &image[offset..offset + size]))
     };
     let class_is_right = |class: u8| 1 <= class && class as usize <= classes;
     let mut table =
         Table { letters: vec![], entries: vec![], contexts: vec![], transitions: vec![], columns: vec![] };
 
+    // 2: wrong record, at the offset of the first one, in image order
     for (offset, record) in records(0, 3) {
         let letter = Letter { symbol: record[0], class: record[1], sign: record[2] };
         let right = notes.kept(&[
@@ -288,7 +175,7 @@ fn open(image: &[u8], notes: &mut Notes) -> Result<Table, Refusal> {
         table.letters.push(letter);
     }
 
-    let number_of_contexts = (starts[3] - starts[2]) / 4;
+    let number_of_contexts = records(2, 4).count();
     for (offset, record) in records(1, 18) {
         let length = record[0] as usize;
         let (string, past) = record[1..11].split_at(length.min(10));
@@ -342,9 +229,11 @@ fn open(image: &[u8], notes: &mut Notes) -> Result<Table, Refusal> {
         table.columns.push(Column { classes: of_classes.to_vec(), variables: of_variables.to_vec() });
     }
 
+    // 3: no alphabet record for blank
     if table.letter(BLANK).is_none() {
         return Err((3, 0));
     }
+    // 4: grouping broken, at the offset of the first record that breaks it
     if let Some(number) = breaks_grouping(&table.entries) {
         return Err((4, (starts[1] + 18 * number) as u64));
     }
@@ -379,14 +268,17 @@ fn sections(image: &[u8], notes: &mut Notes) -> Option<Sections> {
     }
     let end = image.len() - TRAILER;
     let trailer = &image[end..];
+    // Two-byte numbers are low byte first.
     let distance = |section: usize| trailer[2 * section] as usize + 256 * trailer[2 * section + 1] as usize;
     let (classes, variables) = (trailer[10] as usize, trailer[11] as usize);
     let mut rules = vec![
         (Event::AloneMark, trailer[12] == 66 && trailer[13] == 51),
         (Event::AloneClasses, (1..=40).contains(&classes)),
         (Event::AloneVariables, variables <= 15),
+        // The first distance equals the length of all five sections.
         (Event::AloneFirstDistance, distance(0) == end),
     ];
+    // Distances never rise; each section holds whole records, in the allowed number.
     if (1..5).any(|section| distance(section) > distance(section - 1)) {
         rules.push((Event::AloneRise, false));
     } else {
@@ -415,12 +307,12 @@ fn sections(image: &[u8], notes: &mut Notes) -> Option<Sections> {
     Some(Sections { starts, classes, variables })
 }
 
-/// The first record that breaks the grouping. It agrees with some earlier record in more characters than
-/// with one of those between them.
+/// The first record that breaks the grouping: if two agree in their first p characters, all records between
+/// them agree in those too. It agrees with some earlier record in more characters than with one between them.
 fn breaks_grouping(entries: &[Entry]) -> Option<usize> {
     let agreement = |a: usize, b: usize| -> usize {
         let (a, b) = (&entries[a].string, &entries[b].string);
-        a.iter().zip(b.iter()).take_while(|(x, y)| x == y).count()
+        a.iter().zip(b).take_while(|(x, y)| x == y).count()
     };
     (0..entries.len()).find(|&later| {
         let mut least_between = 10;
@@ -435,9 +327,8 @@ fn breaks_grouping(entries: &[Entry]) -> Option<usize> {
 
 // Collapsing the text
 
-/// Drops `|`, makes line feeds blanks, and keeps of each run of blanks the first, or the first two where
-/// the run follows a period.
 fn collapse(text: &[u8], notes: &mut Notes) -> Vec<u8> {
+    // First | is dropped and line feed becomes a blank.
     let mut characters = vec![];
     for &byte in text {
         match byte {
@@ -449,21 +340,22 @@ fn collapse(text: &[u8], notes: &mut Notes) -> Vec<u8> {
             _ => characters.push(byte),
         }
     }
+    // Then in each run of blanks only the first is kept, or the first two where the run follows a period.
     let mut collapsed = vec![];
-    let mut before_the_run = None; // the character before this run of blanks
-    let mut run = 0; // blanks in it so far
+    let mut before_the_run = None;
+    let mut blanks_in_the_run = 0;
     for &character in &characters {
         if character != BLANK {
             collapsed.push(character);
             before_the_run = Some(character);
-            run = 0;
+            blanks_in_the_run = 0;
             continue;
         }
-        run += 1;
+        blanks_in_the_run += 1;
         let kept = if before_the_run == Some(PERIOD) { 2 } else { 1 };
-        if run <= kept {
+        if blanks_in_the_run <= kept {
             collapsed.push(BLANK);
-            if run == 2 {
+            if blanks_in_the_run == 2 {
                 notes.note(Event::SecondBlankKept);
             }
         } else {
@@ -480,18 +372,22 @@ impl Table {
         self.letters.iter().find(|letter| letter.symbol == symbol)
     }
 
-    fn class_of(&self, symbol: u8) -> u8 {
-        self.letter(symbol).map_or(0, |letter| letter.class)
+    /// The record of a character that is known to have one.
+    fn known(&self, symbol: u8) -> &Letter {
+        self.letter(symbol).expect("every remaining character has an alphabet record")
     }
 
     /// The signs of all pieces in order, and the number of pieces.
     fn translate(&self, planted: Planted, collapsed: &[u8], notes: &mut Notes) -> (Vec<u8>, u64) {
+        // All state variables start at no.
         let mut states = vec![false; self.transitions.len()];
         let mut signs = vec![];
         let mut pieces = 0;
+        // At each place the search is given the rest of the text from that place on.
         let mut rest = collapsed;
         while !rest.is_empty() {
             let (class, shift) = match self.choose(planted, rest, &states, notes) {
+                // The first admissible entry in table order gives a piece of shift characters and its signs.
                 Some(entry) => {
                     notes.note(Event::EntryPiece);
                     if entry.shift < entry.string.len() {
@@ -503,88 +399,79 @@ impl Table {
                     signs.extend(entry.signs);
                     (entry.class, entry.shift)
                 }
+                // With none, the character's alphabet record gives a piece of one, without asking the decision table.
                 None => {
                     notes.note(Event::AlphabetPiece);
-                    let letter = self.letter(rest[0]).expect("every remaining character has a record");
+                    let letter = self.known(rest[0]);
                     signs.push(letter.sign);
                     (letter.class, 1)
                 }
             };
-            for (variable, state) in states.iter().enumerate() {
-                match self.transitions[variable][class as usize - 1] {
-                    b'R' if *state => notes.note(Event::VariableReset),
-                    b'S' if !*state => notes.note(Event::VariableSet),
-                    b'T' => notes.note(Event::VariableTurned),
-                    _ => (),
-                }
-            }
-            states = self.moved(&states, class);
+            // Then the piece's class moves each variable.
+            states = self.moved(&states, class, notes);
             rest = &rest[shift..];
             pieces += 1;
         }
         (signs, pieces)
     }
 
-    /// The states after a piece of this class.
-    fn moved(&self, states: &[bool], class: u8) -> Vec<bool> {
-        let transition = |variable: usize| self.transitions[variable][class as usize - 1];
-        states
-            .iter()
-            .enumerate()
-            .map(|(variable, &state)| match transition(variable) {
-                b'R' => false,
-                b'S' => true,
-                b'T' => !state,
-                _ => state,
-            })
-            .collect()
+    /// The states after a piece of this class: R no, S yes, T the other, - as it was.
+    fn moved(&self, states: &[bool], class: u8, notes: &mut Notes) -> Vec<bool> {
+        let mut moved = vec![];
+        for (transition, &state) in self.transitions.iter().zip(states) {
+            let (event, after) = match transition[class as usize - 1] {
+                b'R' => (Event::VariableReset, false),
+                b'S' => (Event::VariableSet, true),
+                b'T' => (Event::VariableTurned, !state),
+                _ => (Event::VariableKept, state),
+            };
+            notes.note(event);
+            moved.push(after);
+        }
+        moved
     }
 
     /// The first admissible entry in table order.
     fn choose(&self, planted: Planted, rest: &[u8], states: &[bool], notes: &mut Notes) -> Option<&Entry> {
-        if planted == Planted::LongestEntry {
-            let mut longest: Option<&Entry> = None;
-            for entry in &self.entries {
-                if longest.map_or(true, |best| entry.string.len() > best.string.len())
-                    && self.admissible(planted, entry, rest, states, notes)
-                {
-                    longest = Some(entry);
-                }
+        let first = self.entries.iter().find(|entry| self.admissible(planted, entry, rest, states, notes))?;
+        let mut longest = first;
+        let mut unnoted = Notes::new();
+        for entry in &self.entries {
+            let longer = entry.string.len() > longest.string.len();
+            if longer && self.admissible(planted, entry, rest, states, &mut unnoted) {
+                longest = entry;
             }
-            return longest;
         }
-        let first = (0..self.entries.len())
-            .find(|number| self.admissible(planted, &self.entries[*number], rest, states, notes))?;
-        let chosen = &self.entries[first];
-        let longer_comes = self.entries[first + 1..].iter().any(|entry| {
-            entry.string.len() > chosen.string.len()
-                && self.admissible(planted, entry, rest, states, &mut Notes::new())
-        });
-        if longer_comes {
+        if longest.string.len() > first.string.len() {
             notes.note(Event::NotLongest);
         }
-        Some(chosen)
+        Some(if planted == Planted::LongestEntry { longest } else { first })
     }
 
+    /// Whether an entry is admissible at the front of this rest.
     fn admissible(&self, planted: Planted, entry: &Entry, rest: &[u8], states: &[bool], notes: &mut Notes) -> bool {
+        // Its whole string begins that rest;
         if !rest.starts_with(&entry.string) {
             return false;
         }
+        // its right context is 0 or holds the class of the character after the whole string (not after the
+        // shift; past the end of text, the blank's class);
         if entry.context != 0 {
             let after = if planted == Planted::ContextAfterShift { entry.shift } else { entry.string.len() };
             if after == rest.len() {
                 notes.note(Event::ContextAtEnd);
             }
-            let next = rest.get(after).copied().unwrap_or(BLANK);
-            if !self.contexts[entry.context - 1].contains(&self.class_of(next)) {
+            let character = rest.get(after).copied().unwrap_or(BLANK);
+            if !self.contexts[entry.context - 1].contains(&self.known(character).class) {
                 notes.note(Event::ContextRejects);
                 return false;
             }
         }
+        // and the decision table accepts its class, with the states before this piece.
         let accepted = if planted == Planted::StatesAfterPiece {
-            self.decide(entry.class, &self.moved(states, entry.class), notes)
+            self.accepts(entry.class, &self.moved(states, entry.class, &mut Notes::new()), notes)
         } else {
-            self.decide(entry.class, states, notes)
+            self.accepts(entry.class, states, notes)
         };
         if !accepted {
             notes.note(Event::DecisionRejects);
@@ -592,34 +479,28 @@ impl Table {
         accepted
     }
 
-    /// Whether the decision table accepts a class: its columns are read from the left.
-    fn decide(&self, class: u8, states: &[bool], notes: &mut Notes) -> bool {
+    /// Whether the decision table accepts a class in these states.
+    fn accepts(&self, class: u8, states: &[bool], notes: &mut Notes) -> bool {
+        // Decision columns are read from the left.
         for column in &self.columns {
+            // Y state yes, N state no, - either
             let holds = column.variables.iter().zip(states).all(|(condition, state)| match condition {
                 b'Y' => *state,
                 b'N' => !*state,
                 _ => true,
             });
-            match column.classes[class as usize - 1] {
-                b'G' => {
-                    notes.note(Event::AcceptedByG);
-                    return true;
-                }
-                b'F' => {
-                    notes.note(Event::RejectedByF);
-                    return false;
-                }
-                b'Y' if holds => {
-                    notes.note(Event::AcceptedByY);
-                    return true;
-                }
-                b'N' if holds => {
-                    notes.note(Event::RejectedByN);
-                    return false;
-                }
-                _ => (),
-            }
+            let (event, accepted) = match column.classes[class as usize - 1] {
+                b'G' => (Event::AcceptedByG, true),
+                b'F' => (Event::RejectedByF, false),
+                b'Y' if holds => (Event::AcceptedByY, true),
+                b'N' if holds => (Event::RejectedByN, false),
+                // -, or conditions that do not all hold: next column
+                _ => continue,
+            };
+            notes.note(event);
+            return accepted;
         }
+        // No column left: reject.
         notes.note(Event::NoColumnLeft);
         false
     }
@@ -627,53 +508,52 @@ impl Table {
 
 // Lines and pages
 
-/// What the layout is given: words, already cut into parts, and format signs.
+/// What the layout is given: words, the parts of those that are too wide as words of their own, and format
+/// signs. A gap is only between words, so it needs no item.
 enum Item {
     Word(Vec<u8>),
     Format(u8),
 }
 
-/// Signs as words and format signs, in order. A run of blanks is one gap, and a gap is only between words.
 fn items(signs: &[u8], w: usize, notes: &mut Notes) -> Vec<Item> {
     let mut items = vec![];
     let mut word = vec![];
-    for sign in signs {
-        match sign {
-            0 => notes.note(Event::Sign0),
-            64 => notes.note(Event::Sign64),
-            70 => notes.note(Event::Sign70),
-            71 => notes.note(Event::Sign71),
-            72 => notes.note(Event::Sign72),
-            73 => notes.note(Event::Sign73),
-            _ => (),
-        }
-    }
-    // One blank more at the end ends the last word.
-    for &sign in signs.iter().chain(&[0]) {
+    for &sign in signs {
         match sign {
             1..=63 => word.push(sign),
             NO_CELL => (),
+            // Signs 0 and 64 end a word, as do 70..73; a run of blanks is one gap.
             _ => {
-                if word.len() > w {
-                    notes.note(if word.len() % w == 0 { Event::WordCutEven } else { Event::WordCut });
-                }
-                items.extend(word.chunks(w).map(|part| Item::Word(part.to_vec())));
-                word.clear();
-                if sign != 0 && sign != 64 {
-                    items.push(Item::Format(sign));
+                end_word(&mut word, w, &mut items, notes);
+                match sign {
+                    0 => notes.note(Event::Sign0),
+                    64 => notes.note(Event::Sign64),
+                    _ => items.push(Item::Format(sign)),
                 }
             }
         }
     }
+    end_word(&mut word, w, &mut items, notes);
     items
 }
 
-/// The place on the page, and the bytes so far.
+/// A word wider than W is cut into parts of exactly W cells and a rest, if cells remain; parts count as words.
+fn end_word(word: &mut Vec<u8>, w: usize, items: &mut Vec<Item>, notes: &mut Notes) {
+    if word.len() > w {
+        notes.note(if word.len() % w == 0 { Event::WordCutEven } else { Event::WordCut });
+    }
+    items.extend(word.chunks(w).map(|part| Item::Word(part.to_vec())));
+    word.clear();
+}
+
+/// The place on the page, and the bytes so far: cells, 64 after each line, 65 after each page's last line.
 struct Page<'a> {
     w: usize,
     p: usize,
+    /// The cells of the line that is being filled.
     line: Vec<u8>,
     lines_on_page: usize,
+    /// The next word opens a paragraph.
     paragraph: bool,
     bytes: Vec<u8>,
     notes: &'a mut Notes,
@@ -684,55 +564,77 @@ fn lay_out(planted: Planted, signs: &[u8], w: usize, p: usize, notes: &mut Notes
     let items = items(signs, w, notes);
     let mut page = Page { w, p, line: vec![], lines_on_page: 0, paragraph: false, bytes: vec![], notes };
     for item in items {
-        if let Item::Format(_) = item {
-            if page.paragraph {
-                page.notes.note(Event::ParagraphWaits);
-            }
-        }
         match item {
             Item::Word(word) => page.word(&word),
-            Item::Format(70) => page.end_line_with_cells(),
-            Item::Format(71) => {
-                page.end_line_with_cells();
-                if page.lines_on_page > 0 || planted == Planted::BlankLineAtTop {
-                    page.notes.note(Event::EmptyLine);
-                    page.end_line();
-                } else {
-                    page.notes.note(Event::EmptyLineSuppressed);
-                }
-            }
-            Item::Format(72) => {
-                page.end_line_with_cells();
-                page.paragraph = true;
-            }
-            Item::Format(_) => page.end_page(Event::PageEndedBy73),
+            Item::Format(sign) => page.format(planted, sign),
         }
     }
+    // End of text: as 73.
     page.end_page(Event::PageEndedByText);
     page.bytes
 }
 
 impl Page<'_> {
     fn word(&mut self, word: &[u8]) {
-        if !self.line.is_empty() && self.line.len() + 1 + word.len() > self.w {
+        // On a line with cells it follows after one blank if that fits in W, otherwise the line ends and it
+        // starts the next.
+        if !self.line.is_empty() {
+            if self.line.len() + 1 + word.len() <= self.w {
+                self.line.push(0);
+                self.line.extend(word);
+                return;
+            }
             self.notes.note(Event::LineEndedByWord);
             self.end_line();
         }
-        if !self.line.is_empty() {
-            self.line.push(0);
+        // On an empty line a word starts in column 0; opening a paragraph, it starts after two blanks when it
+        // has at most W-2 cells, else in column 0.
+        if self.paragraph && word.len() <= self.w - 2 {
+            self.notes.note(Event::ParagraphColumn2);
+            self.line.extend([0, 0]);
         } else if self.paragraph {
-            if word.len() + 2 <= self.w {
-                self.notes.note(Event::ParagraphColumn2);
-                self.line.extend([0, 0]);
-            } else {
-                self.notes.note(Event::ParagraphColumn0);
-            }
+            self.notes.note(Event::ParagraphColumn0);
         }
         self.paragraph = false;
         self.line.extend(word);
     }
 
-    /// Ends the line as it is; the page ends by itself after P lines.
+    fn format(&mut self, planted: Planted, sign: u8) {
+        if self.paragraph {
+            // This waits through other format signs.
+            self.notes.note(Event::ParagraphWaits);
+        }
+        match sign {
+            70 => {
+                self.notes.note(Event::Sign70);
+                self.end_line_with_cells();
+            }
+            // as 70, then an empty line unless the page has no line yet
+            71 => {
+                self.notes.note(Event::Sign71);
+                self.end_line_with_cells();
+                if self.lines_on_page > 0 || planted == Planted::BlankLineAtTop {
+                    self.notes.note(Event::EmptyLine);
+                    self.end_line();
+                } else {
+                    self.notes.note(Event::EmptyLineSuppressed);
+                }
+            }
+            // as 70; the next word opens a paragraph
+            72 => {
+                self.notes.note(Event::Sign72);
+                self.end_line_with_cells();
+                self.paragraph = true;
+            }
+            // 73
+            _ => {
+                self.notes.note(Event::Sign73);
+                self.end_page(Event::PageEndedBy73);
+            }
+        }
+    }
+
+    /// Ends the line as it is. A page ends by itself after P lines.
     fn end_line(&mut self) {
         if self.line.len() == self.w {
             self.notes.note(Event::LineFull);
@@ -747,12 +649,14 @@ impl Page<'_> {
         }
     }
 
+    /// 70: end the line if it holds a cell.
     fn end_line_with_cells(&mut self) {
         if !self.line.is_empty() {
             self.end_line();
         }
     }
 
+    /// 73: as 70, then end the page if it has a line.
     fn end_page(&mut self, event: Event) {
         self.end_line_with_cells();
         if self.lines_on_page > 0 {
@@ -786,7 +690,8 @@ mod tests {
         let strings: Vec<&[u8]> = vec![b"A", b"B", b"AA", b"AB", b"BA", b"AAA", b"AAB"];
         // All lists of five of these strings.
         for list in 0..strings.len().pow(5) {
-            let chosen: Vec<&[u8]> = (0..5).map(|place| strings[list / strings.len().pow(place) % strings.len()]).collect();
+            let chosen: Vec<&[u8]> =
+                (0..5).map(|place| strings[list / strings.len().pow(place) % strings.len()]).collect();
             let entries: Vec<Entry> = chosen
                 .iter()
                 .map(|string| Entry { string: string.to_vec(), context: 0, class: 1, shift: 1, signs: [99; 4] })

@@ -1,9 +1,10 @@
 //! The outside vectors: texts with the cells that others printed for them, by a table made for those texts.
 //! Each goes to the program and to the reference, and both have to give the printed bytes.
 
+use crate::counts::Notes;
 use crate::generate::Case;
-use crate::reference::{emboss, Notes};
-use crate::{run_program, table};
+use crate::reference::emboss;
+use crate::{difference, lent_buffer, run_program, table};
 
 /// Runs every vector file of a folder: NAME.vectors with its NAME.table.
 pub fn run(folder: &str, program: &[String]) -> Result<(), String> {
@@ -25,20 +26,17 @@ pub fn run(folder: &str, program: &[String]) -> Result<(), String> {
         let vectors = vectors(&image, &read(&file)?)?;
         let cases: Vec<Case> = vectors.iter().map(|(case, _)| case.clone()).collect();
         let (answers, ()) = run_program(program, &cases, || ())?;
-        for ((case, printed), (answer, buffer)) in vectors.iter().zip(&answers) {
+        for ((case, printed), outcome) in vectors.iter().zip(&answers) {
             let text = String::from_utf8_lossy(&case.text);
-            let mut own = vec![0; case.room];
+            let mut own = lent_buffer(case.room);
             let own_answer = emboss(&case.image, &case.text, case.w, case.p, &mut own, &mut Notes::new());
-            let wrong = |who: &str, number: u8, place: u64, bytes: &[u8]| {
-                Err(format!("{name}: {text}: {who} answers {number} at {place}, {bytes:?}, printed {printed:?}"))
-            };
-            let written = |written: u64| (written as usize).min(case.room);
-            let (program_wrote, own_wrote) = (&buffer[..written(answer.written)], &own[..written(own_answer.written)]);
+            let own_wrote = &own[..own_answer.written as usize];
+            let wrong = |what: String| Err(format!("{name}: {text}: printed {printed:?}, {what}"));
             if own_answer.number != 0 || own_wrote != printed {
-                return wrong("the reference", own_answer.number, own_answer.place, own_wrote);
+                return wrong(format!("the reference has {own_answer:?}, {own_wrote:?}"));
             }
-            if *answer != own_answer || program_wrote != printed {
-                return wrong("the program", answer.number, answer.place, program_wrote);
+            if let Some(difference) = difference(outcome, &(own_answer, own)) {
+                return wrong(format!("program and reference differ: {difference}"));
             }
         }
         println!("{:>10}  vectors of {name}, no difference", vectors.len());
@@ -46,8 +44,8 @@ pub fn run(folder: &str, program: &[String]) -> Result<(), String> {
     Ok(())
 }
 
-/// A vector file has `width W` and `page P`, then for each vector a line `text ...` and the printed bytes,
-/// in decimal, on lines that start with `cells`. A blank line or a remark parts nothing.
+/// A vector file has `width W` and `page P`, then for each vector a line `text ...`, where `_` is a blank, and
+/// the printed bytes, in decimal, on lines that start with `cells`. A blank line or a remark parts nothing.
 pub fn vectors(image: &[u8], words: &str) -> Result<Vec<(Case, Vec<u8>)>, String> {
     let (mut w, mut p) = (0, 0);
     let mut vectors: Vec<(Case, Vec<u8>)> = vec![];
@@ -60,8 +58,8 @@ pub fn vectors(image: &[u8], words: &str) -> Result<Vec<(Case, Vec<u8>)>, String
             "width" => w = rest.parse().map_err(|_| wrong())?,
             "page" => p = rest.parse().map_err(|_| wrong())?,
             "text" => {
-                let text = rest.as_bytes().to_vec();
-                vectors.push((Case { seed: 0, image: image.to_vec(), text, w, p, room: 1000 }, vec![]));
+                let text = rest.bytes().map(|byte| if byte == b'_' { b' ' } else { byte }).collect();
+                vectors.push((Case { seed: 0, kinds: vec![], image: image.to_vec(), text, w, p, room: 1000 }, vec![]));
             }
             "cells" => {
                 let (_, printed) = vectors.last_mut().ok_or_else(wrong)?;
@@ -80,13 +78,45 @@ mod tests {
     use super::*;
 
     #[test]
-    fn the_reference_prints_the_lines_of_dotsys() {
-        let image = table::read(include_str!("../vectors/dotsys.table")).unwrap().image();
-        for (case, printed) in vectors(&image, include_str!("../vectors/dotsys.vectors")).unwrap() {
-            let mut out = vec![0; case.room];
-            let answer = emboss(&case.image, &case.text, case.w, case.p, &mut out, &mut Notes::new());
-            assert_eq!(answer.number, 0);
-            assert_eq!(out[..answer.written as usize], printed, "{}", String::from_utf8_lossy(&case.text));
+    fn the_reference_prints_the_vectors() {
+        let files = [
+            (include_str!("../vectors/dotsys.table"), include_str!("../vectors/dotsys.vectors")),
+            (include_str!("../vectors/dictionary704.table"), include_str!("../vectors/dictionary704.vectors")),
+        ];
+        for (table, words) in files {
+            let image = table::read(table).unwrap().image();
+            for (case, printed) in vectors(&image, words).unwrap() {
+                let mut out = vec![0; case.room];
+                let answer = emboss(&case.image, &case.text, case.w, case.p, &mut out, &mut Notes::new());
+                assert_eq!(answer.number, 0);
+                assert_eq!(out[..answer.written as usize], printed, "{}", String::from_utf8_lossy(&case.text));
+            }
         }
+    }
+
+    /// Each entry of the 704's extract that stands alone has the source's octal numbers in the remark before it:
+    /// their parity is even, and the low six bits are the cells. 300 is a space, which ends no line.
+    #[test]
+    fn the_cells_of_the_704_are_its_octal_numbers() {
+        let mut octal: Option<Vec<u16>> = None;
+        let mut compared = 0;
+        for line in include_str!("../vectors/dictionary704.vectors").lines() {
+            match line.split_whitespace().collect::<Vec<_>>().as_slice() {
+                ["#", number, numbers] if number.len() == 4 => {
+                    octal = Some(numbers.split(',').map(|number| u16::from_str_radix(number, 8).unwrap()).collect());
+                }
+                ["cells", printed @ ..] => {
+                    if let Some(numbers) = octal.take() {
+                        assert!(numbers.iter().all(|number| number.count_ones() % 2 == 0), "{line}");
+                        let cells = numbers.iter().filter(|number| **number != 0o300).map(|number| number % 64);
+                        let bytes: Vec<String> = cells.chain([64, 65]).map(|byte| byte.to_string()).collect();
+                        assert_eq!(bytes, printed);
+                        compared += 1;
+                    }
+                }
+                _ => (),
+            }
+        }
+        assert_eq!(compared, 61);
     }
 }

@@ -1,0 +1,143 @@
+//! What is counted on the way to an answer, so that a run can say what it met: a list of events with the words
+//! for each, and how often each happened. Nothing here is part of an answer.
+
+/// Defines an enum and the list of the words for its cases.
+macro_rules! counted {
+    ($(#[$about:meta])* $name:ident, $words:ident { $($case:ident: $in_words:expr,)* }) => {
+        $(#[$about])*
+        #[derive(Clone, Copy, Debug, PartialEq, Eq)]
+        pub enum $name { $($case),* }
+
+        /// The words for each, in the order of the enum.
+        pub const $words: &[&str] = &[$($in_words),*];
+    };
+}
+
+counted! {
+    /// Something that happened on the way to an answer.
+    Event, EVENT_WORDS {
+        WrongAlphabet: "answer 2 in the alphabet",
+        WrongContraction: "answer 2 in the contractions",
+        WrongContext: "answer 2 in the right contexts",
+        WrongTransition: "answer 2 in the transitions",
+        WrongDecision: "answer 2 in the decisions",
+        UnderTrailer: "images under 14 bytes",
+        AloneMark: "wrong alone: the trailer's last two bytes",
+        AloneClasses: "wrong alone: the number of classes",
+        AloneVariables: "wrong alone: the number of state variables",
+        AloneFirstDistance: "wrong alone: the first distance",
+        AloneRise: "wrong alone: a distance that rises",
+        AloneWhole: "wrong alone: a section of broken records",
+        AloneLetters: "wrong alone: the number of alphabet records",
+        AloneEntries: "wrong alone: the number of contractions",
+        AloneContexts: "wrong alone: the number of right contexts",
+        AloneTransitions: "wrong alone: the number of transitions",
+        AloneColumns: "wrong alone: the number of decisions",
+        AloneSymbol: "wrong alone: a symbol outside 32..126",
+        AloneBar: "wrong alone: the symbol |",
+        AloneRepeated: "wrong alone: a symbol of an earlier record",
+        AloneLetterClass: "wrong alone: the class of an alphabet record",
+        AloneLetterSign: "wrong alone: the sign of an alphabet record",
+        AloneLength: "wrong alone: the length of a string",
+        AloneString: "wrong alone: a string's character",
+        AlonePast: "wrong alone: a byte past the string",
+        AloneNoContext: "wrong alone: a right context that does not exist",
+        AloneContextAtTen: "wrong alone: a right context after ten characters",
+        AloneEntryClass: "wrong alone: the class of an entry",
+        AloneShift: "wrong alone: a shift",
+        AloneSign: "wrong alone: a sign of an entry",
+        AloneAfter99: "wrong alone: a sign after a 99",
+        AloneVariableByte: "wrong alone: a decision byte for a variable",
+        AloneClassByte: "wrong alone: a decision byte for a class",
+        FullAlphabet: "tables of 63 alphabet records",
+        FullContractions: "tables of 1,199 entries",
+        FullContexts: "tables of 5 right contexts",
+        FullVariables: "tables of 15 state variables",
+        FullDecisions: "tables of 20 decision columns",
+        FullClasses: "tables of 40 classes",
+        NoEntry: "tables of no entry",
+        NoColumn: "tables of no decision column",
+        FullText: "texts of 16,384 bytes",
+        BarDropped: "bars dropped",
+        LineFeedTurned: "line feeds turned into blanks",
+        BlankDropped: "blanks dropped from a run",
+        SecondBlankKept: "second blanks kept after a period",
+        EntryPiece: "pieces of an entry",
+        AlphabetPiece: "pieces of an alphabet record",
+        ContextRejects: "entries rejected by their right context",
+        ContextAtEnd: "right contexts asked past the end of the text",
+        DecisionRejects: "entries rejected by the decision table",
+        AcceptedByG: "accepted by G",
+        AcceptedByY: "accepted by Y",
+        RejectedByF: "rejected by F",
+        RejectedByN: "rejected by N",
+        NoColumnLeft: "rejected with no column left",
+        ShiftShorter: "shifts shorter than the string",
+        NotLongest: "pieces of an entry while a longer one is admissible",
+        EntryPrintsNothing: "pieces whose signs are all 99",
+        VariableReset: "variables moved by R",
+        VariableSet: "variables moved by S",
+        VariableTurned: "variables moved by T",
+        VariableKept: "variables kept by -",
+        Sign0: "signs 0",
+        Sign64: "signs 64",
+        Sign70: "signs 70",
+        Sign71: "signs 71",
+        Sign72: "signs 72",
+        Sign73: "signs 73",
+        WordCut: "words cut",
+        WordCutEven: "words cut with no rest",
+        ParagraphColumn0: "paragraphs in column 0",
+        ParagraphColumn2: "paragraphs in column 2",
+        ParagraphWaits: "paragraphs that wait through another format sign",
+        LineFull: "lines filled to W exactly",
+        LineEndedByWord: "lines ended because the next word does not fit",
+        EmptyLine: "empty lines written",
+        EmptyLineSuppressed: "empty lines suppressed at the top of a page",
+        PageEndedByP: "pages ended by P",
+        PageEndedBy73: "pages ended by 73",
+        PageEndedByText: "pages ended by the end of the text",
+    }
+}
+
+/// How often each event happened.
+#[derive(Clone, Debug)]
+pub struct Notes {
+    pub counts: [u64; EVENT_WORDS.len()],
+}
+
+impl Notes {
+    pub fn new() -> Notes {
+        Notes { counts: [0; EVENT_WORDS.len()] }
+    }
+
+    pub fn note(&mut self, event: Event) {
+        self.counts[event as usize] += 1;
+    }
+
+    pub fn add(&mut self, other: &Notes) {
+        for (mine, theirs) in self.counts.iter_mut().zip(&other.counts) {
+            *mine += theirs;
+        }
+    }
+
+    /// Only what was wrong with the table, for a case that was refused.
+    pub fn add_wrong_table(&mut self, other: &Notes) {
+        for event in 0..=Event::AloneClassByte as usize {
+            self.counts[event] += other.counts[event];
+        }
+    }
+
+    /// Whether all these rules are kept; notes the one that is broken alone.
+    pub fn kept(&mut self, rules: &[(Event, bool)]) -> bool {
+        let mut broken = rules.iter().filter(|(_, kept)| !kept);
+        match (broken.next(), broken.next()) {
+            (None, _) => true,
+            (Some((event, _)), None) => {
+                self.note(*event);
+                false
+            }
+            _ => false,
+        }
+    }
+}
