@@ -1,7 +1,7 @@
 //! Compares the proved program with the reference: random cases go to the program's standard input, its
-//! answers and whole buffers come back, and every value and every byte has to be the reference's. CASES.md
-//! has the byte form of a case. It also writes table images from their readable form, and runs the outside
-//! vectors.
+//! answers and whole buffers come back, and every value and every byte has to be the reference's. The head of
+//! crates/answers/src/main.rt has the byte form of a case. It also writes table images from their readable
+//! form, and runs the outside vectors.
 
 #[macro_use]
 mod counts;

@@ -11,7 +11,7 @@ pub fn run(folder: &str, program: &[String]) -> Result<(), String> {
     let mut files: Vec<_> = std::fs::read_dir(folder)
         .map_err(|why| format!("{folder}: {why}"))?
         .filter_map(|file| file.ok().map(|file| file.path()))
-        .filter(|path| path.extension().is_some_and(|extension| extension == "vectors"))
+        .filter(|path| path.extension().map_or(false, |extension| extension == "vectors"))
         .collect();
     files.sort();
     if files.is_empty() {

@@ -11,7 +11,8 @@
 //             8 bytes  each: place, bytes written, pieces, lines, pages
 //             the whole buffer of `room` bytes after the call; before it byte i, counted from 0, was the low eight bits of 7 i + 13
 //
-// A case over these limits, or one that the input cuts short, gets no answer, and the run ends there.
+// A case over these limits, or one that the input cuts short, gets no answer, and the run ends there. The file stdin beside this folder has two cases by the
+// paper's table, COME with 8 bytes of room and `A|a` with 4, and stdout their answers.
 
 ghost use Prim.Native.Nat.{_≤_};
 ghost use Rattle.io.specs.Counts.{Counts};
