@@ -2,16 +2,14 @@
 -- output afterwards.
 use Prim.Native.Nat.{ℕ}
 use mathlib.Core.Bool.{Bool, true, false, _&&_}
-use mathlib.Core.List.{List, [], _∷_, _++_}
-use mathlib.Core.Option.{Option, none, some}
+use mathlib.Core.List.{List, [], _++_}
+use mathlib.Core.Option.{none, some}
 use lib.ListN.{length, drop}
 use lib.Dec.{leb}
 use Rattle.table.specs.Numbers.{numberDone, noPlace}
 use Rattle.table.specs.Search.{within}
 use Rattle.table.specs.Table.{Table, tableOf}
 use Rattle.table.specs.Verdict.{faultNumber, faultPlace, verdictOf}
-use Rattle.table.specs.declared.Fault.{Fault}
-use Rattle.table.specs.declared.Verdict.{Verdict}
 use Rattle.table.specs.declared.Verdict.the-variants.{Accepted, Refused}
 use Rattle.translation.specs.Numbers.{mostText, numberLongText, numberUnknown}
 use Rattle.translation.specs.Letters.{firstUnknown}

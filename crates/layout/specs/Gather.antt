@@ -3,12 +3,12 @@
 use Prim.Native.Nat.{ℕ, _+_, _≤_}
 use mathlib.Core.Bool.{cond, _||_}
 use mathlib.Core.List.{List, [], _∷_, _++_}
-use mathlib.Core.Option.{Option, none, some}
+use mathlib.Core.Option.{none, some}
 use lib.Dec.{ltb, eqb}
 use lib.ListN.{length}
 use Rattle.table.specs.Numbers.{blankCell}
 use Rattle.table.specs.Search.{isThere}
-use Rattle.layout.specs.Words.{Item, formatOf, gathered, cut}
+use Rattle.layout.specs.Words.{formatOf, gathered, cut}
 use Rattle.layout.specs.Place.{afterWord, wordBytes, afterItem, itemBytes, afterItems, itemsBytes, ended}
 use Rattle.layout.specs.declared.Gathering.{Gathering}
 use Rattle.layout.specs.declared.Place.{Place}

@@ -1,6 +1,6 @@
 -- 'Output bytes': pages as lists of lines, a line as a list of cells, and their bytes.
 use Prim.Native.Nat.{ℕ, suc}
-use mathlib.Core.Bool.{Bool, true, false}
+use mathlib.Core.Bool.{true, false}
 use mathlib.Core.List.{List, [], _∷_, _++_}
 use lib.Dec.{eqb}
 use Rattle.layout.specs.Numbers.{lineMark, pageMark}

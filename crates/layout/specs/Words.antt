@@ -1,7 +1,7 @@
 -- 'Lines and pages': the words and format signs that signs make, and a word that is wider than the line, cut into parts. The signs are those that
 -- pieces print: 64 has become 0 there, and 99 is gone.
 use Prim.Native.Nat.{ℕ, zero, suc}
-use mathlib.Core.Bool.{Bool, true, false, cond}
+use mathlib.Core.Bool.{true, false, cond}
 use mathlib.Core.List.{List, [], _∷_, _++_, map}
 use mathlib.Core.Option.{Option, none, some}
 use lib.ListN.{length, take, drop}

@@ -24,7 +24,6 @@ use Rattle.table.specs.Sections.{
   sectionsOf,
   offset,
 }
-use Rattle.table.specs.Refusals.{Between}
 use Rattle.table.specs.Laid.{Laid, SectionsLaid}
 use Rattle.table.specs.declared.Section.{Section}
 use Rattle.table.proofs.Tests.{both, tells-and, tells-eq, tells-within}

@@ -1,6 +1,6 @@
 -- 'A right record has': the rule of each kind of record, byte by byte in byte order; a record's first wrong byte; the first wrong record in image order.
 use Prim.Native.Nat.{ℕ, _+_, _-_}
-use mathlib.Core.Bool.{Bool, true, false, cond, not, _&&_, _||_}
+use mathlib.Core.Bool.{Bool, true, cond, not, _&&_, _||_}
 use mathlib.Core.List.{List, [], _∷_, _++_}
 use mathlib.Core.Option.{Option, none, some, Option·getD}
 use lib.ListN.{length, getD, take}

@@ -1,8 +1,8 @@
 -- 'What comes back', answers 0 to 4: the verdict on a table image, its number and its place.
 use Prim.Native.Nat.{ℕ}
-use mathlib.Core.Bool.{Bool, true, false}
+use mathlib.Core.Bool.{true, false}
 use mathlib.Core.List.{List, map}
-use mathlib.Core.Option.{Option, none, some}
+use mathlib.Core.Option.{none, some}
 use Rattle.table.specs.Numbers.{blank, numberDone, numberFrame, numberRecord, numberNoBlank, numberGrouping, noPlace}
 use Rattle.table.specs.Search.{member}
 use Rattle.table.specs.Sections.{frameRight, sectionsIn, offset}

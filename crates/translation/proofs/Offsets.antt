@@ -1,5 +1,5 @@
 -- A walk over a section, record by record: the offset of byte `j` of record `k` grows by the records' size, and never overflows.
-use Prim.Native.Nat.{ℕ, _+_, _*_, _^_, _<_}
+use Prim.Native.Nat.{ℕ, _+_, _^_, _<_}
 use mathlib.Core.Path.{_≡_}
 use native.Mathlib.Omega.{arith}
 use Rattle.table.specs.Sections.{offset}

@@ -1,6 +1,6 @@
 -- 'Collapsing the text': bars and line feeds first, then the runs of blanks.
 use Prim.Native.Nat.{ℕ, pred}
-use mathlib.Core.Bool.{Bool, true, false, cond}
+use mathlib.Core.Bool.{true, false, cond}
 use mathlib.Core.List.{List, [], _∷_}
 use lib.Dec.{ltb, eqb}
 use Rattle.table.specs.Numbers.{blank, bar}

@@ -1,6 +1,6 @@
 -- `translation::alphabet::letter_of` meets its contract. The loop's invariant: no record before `k` has the symbol, and `at` is where record `k` lies.
 use borrow.Author.Needs.{needs}
-use Prim.Native.Nat.{ℕ, _+_, _≤_, _<_, _-_}
+use Prim.Native.Nat.{ℕ, _+_, _≤_, _-_}
 use mathlib.Core.Bool.{Bool}
 use mathlib.Core.List.{List}
 use mathlib.Core.Path.{_≡_, sym, _∙_, ap}

@@ -1,7 +1,7 @@
 -- `translation::choosing::search` meets its contract. The loop's invariant: no entry before `k` is admissible, and `at` is where the first character of
 -- entry `k` lies. An entry whose first character is another than the rest's is passed over: its string doesn't begin the rest.
 use borrow.Author.Needs.{needs}
-use Prim.Native.Nat.{ℕ, _+_, _≤_, _<_, _-_, _^_}
+use Prim.Native.Nat.{ℕ, _+_, _≤_, _<_, _-_}
 use mathlib.Core.Bool.{Bool}
 use mathlib.Core.List.{List}
 use mathlib.Core.Logic.{⊎-elim}
