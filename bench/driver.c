@@ -2,7 +2,7 @@
    disturbance meets each of them; of each call and input the best round counts. Answers and output bytes are compared on every input,
    and a difference ends the run.
 
-   Where in memory the linker puts a short loop can change its time by a third. So the driver is linked several times, each time with
+   Where in memory the linker puts a short loop can change its time by three to four tenths. So the driver is linked several times, each time with
    the code moved on by some bytes; of each call the best of these placements counts, which the file TIMES hands from one to the next.
 
    usage: driver TIMES IMAGE TEXT DOCUMENT...

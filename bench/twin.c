@@ -308,12 +308,10 @@ static struct fault judged(const uint8_t *image, const struct sections *s)
     return r != 0 ? fault_at(4, offset_of(&s->contractions, r)) : fault_at(0, 0);
 }
 
-/* The verdict on an image: number 0 where it is accepted. */
-static struct fault check(const uint8_t *image, size length)
+/* The verdict on an image, by its sections: number 0 where it is accepted. */
+static struct fault verdict_on(const uint8_t *image, const struct sections *s)
 {
-    struct sections s = locate(image, length);
-
-    return s.classes == 0 ? fault_at(1, 0) : judged(image, &s);
+    return s->classes == 0 ? fault_at(1, 0) : judged(image, s);
 }
 
 /* ---- translation: the alphabet (alphabet) */
@@ -321,13 +319,13 @@ static struct fault check(const uint8_t *image, size length)
 /* The alphabet record of a symbol, or null. */
 static const uint8_t *letter_of(const uint8_t *image, const struct sections *s, uint8_t c)
 {
-    const uint8_t *r;
+    const uint8_t *r = image + s->alphabet.start;
     size k;
 
     for (k = 0; k < s->alphabet.records; k++) {
-        r = record(image, &s->alphabet, k);
         if (r[0] == c)
             return r;
+        r += s->alphabet.size;
     }
     return 0;
 }
@@ -471,7 +469,7 @@ static int starts(const uint8_t *string, size n, const uint8_t *rest, size left)
 
 static int begins(const uint8_t *r, const uint8_t *rest, size left)
 {
-    return r[1] == rest[0] && starts(r + 1, r[0], rest, left);
+    return starts(r + 1, r[0], rest, left);
 }
 
 static int context_holds(const uint8_t *image, const struct sections *s, uint8_t following, const uint8_t *r, const uint8_t *rest, size left)
@@ -490,17 +488,23 @@ static int context_holds(const uint8_t *image, const struct sections *s, uint8_t
     return 0;
 }
 
+static int admits(const uint8_t *image, const struct sections *s, uint8_t following, const struct states *states, const uint8_t *r,
+                  const uint8_t *rest, size left)
+{
+    return begins(r, rest, left) && context_holds(image, s, following, r, rest, left) && decide(image, s, states, r[12]);
+}
+
 /* The first admissible entry, or null. */
 static const uint8_t *search(const uint8_t *image, const struct sections *s, uint8_t following, const struct states *states,
                              const uint8_t *rest, size left)
 {
-    const uint8_t *r;
+    const uint8_t *r = image + s->contractions.start;
     size k;
 
     for (k = 0; k < s->contractions.records; k++) {
-        r = record(image, &s->contractions, k);
-        if (begins(r, rest, left) && context_holds(image, s, following, r, rest, left) && decide(image, s, states, r[12]))
+        if (r[1] == rest[0] && admits(image, s, following, states, r, rest, left))
             return r;
+        r += s->contractions.size;
     }
     return 0;
 }
@@ -820,8 +824,8 @@ void TWIN(const uint8_t *image, uint64_t image_length, const uint8_t *text, uint
           uint8_t *out, uint64_t room, uint64_t answer[VALUES])
 {
     uint8_t signs[65536], collapsed[16384];
-    struct fault fault = check(image, image_length);
-    struct sections s;
+    struct sections s = locate(image, image_length);
+    struct fault fault = verdict_on(image, &s);
     int64_t unknown;
     size n;
 
@@ -837,7 +841,6 @@ void TWIN(const uint8_t *image, uint64_t image_length, const uint8_t *text, uint
         store(answer, 6, 16384);
         return;
     }
-    s = locate(image, image_length);
     n = collapse(text, text_length, collapsed);
     unknown = first_unknown(image, &s, text, text_length);
     if (unknown >= 0) {

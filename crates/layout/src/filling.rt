@@ -1,9 +1,5 @@
 // The output of a text's signs: the place alone is moved through them first, which gives the bytes needed; only where these have room are they written.
 
-ghost use mathlib.Core.Path.{_≡_};
-ghost use Prim.Native.Nat.{ℕ, _<_, _≤_};
-ghost use lib.ListN.{length, getD};
-ghost use Rattle.translation.specs.Signs.{PrintedSign};
 ghost use Rattle.layout.specs.Words.{itemsOf};
 ghost use Rattle.layout.specs.Place.{volume};
 ghost use Rattle.layout.specs.Writing.{Filled, Fillable};

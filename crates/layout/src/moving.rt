@@ -1,8 +1,8 @@
 // The place on the page and its moves. A place is a value: each move takes it and hands the moved place back, and writes nothing.
 
 ghost use mathlib.Core.Path.{_≡_};
-ghost use Prim.Native.Nat.{_<_, _^_, _≤_};
-ghost use Rattle.layout.specs.Place.{start, afterLine, afterLineEnd, afterEmptyLine, afterParagraph, afterPage, afterPageEnd, openingBlanks, afterCells, afterWord};
+ghost use Prim.Native.Nat.{_<_, _^_};
+ghost use Rattle.layout.specs.Place.{start, afterLine, afterLineEnd, afterEmptyLine, afterParagraph, afterPageEnd, openingBlanks, afterCells, afterWord};
 ghost use Rattle.layout.specs.Gather.{Modest};
 use crate::Place;
 

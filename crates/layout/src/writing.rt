@@ -1,7 +1,6 @@
 // The pass that writes. Each move of the place has its bytes: cells, 64 after a line, 65 after a page. What is written stands from the place's own number
 // on, and everything else stays as it was.
 
-ghost use mathlib.Core.Path.{_≡_};
 ghost use Prim.Native.Nat.{_+_, _*_, _<_, _≤_, _^_};
 ghost use lib.ListN.{length, replicate, take};
 ghost use Rattle.table.specs.Numbers.{entrySigns};
@@ -9,7 +8,7 @@ ghost use Rattle.translation.specs.Numbers.{mostText};
 ghost use Rattle.layout.specs.Numbers.{mostWidth};
 ghost use Rattle.layout.specs.Words.{itemsOf};
 ghost use Rattle.layout.specs.Place.{afterLine, lineBytes, afterLineEnd, lineEndBytes, afterEmptyLine, emptyLineBytes, afterParagraph, paragraphBytes, afterPageEnd, pageEndBytes, cellsAfter, afterWord, wordBytes, volume};
-ghost use Rattle.layout.specs.Gather.{Modest, afterFlush, flushBytes, afterFormat, formatBytes, stepped, waiting, stepBytes};
+ghost use Rattle.layout.specs.Gather.{afterFlush, flushBytes, afterFormat, formatBytes, stepBytes};
 ghost use Rattle.layout.specs.Writing.{Put, Moved, Room, Signed};
 use crate::Gathering;
 use crate::Place;

@@ -1,5 +1,5 @@
--- What each public function of this crate promises, as a relation between what it is given and what it answers. proofs/Promises.antt shows that any two
--- answers that a promise allows are equal.
+-- What each public function of this crate promises, and `locate`, which `open` and the layers above rest on, as a relation between what it is given and
+-- what it answers. proofs/Promises.antt shows that any two answers that a promise allows are equal.
 use Prim.Native.Nat.{ℕ, _+_}
 use mathlib.Core.Bool.{cond}
 use mathlib.Core.List.{List, []}

@@ -3,9 +3,9 @@
 
 ghost use mathlib.Core.Path.{_≡_};
 ghost use mathlib.Core.Bool.{true};
-ghost use Prim.Native.Nat.{ℕ, _+_, _-_, _/_, _<_, _≤_};
+ghost use Prim.Native.Nat.{_+_, _-_, _/_, _<_, _≤_};
 ghost use lib.ListN.{length};
-ghost use Rattle.table.specs.Sections.{numberAt, distance, trailerAt, classesIn, variablesIn, trailerRight, distancesRight, wholeRecords, lengthsRight, sectionsIn, noSections};
+ghost use Rattle.table.specs.Sections.{numberAt, distance, trailerRight, distancesRight, wholeRecords, lengthsRight, sectionsIn, noSections};
 ghost use Rattle.table.specs.Promises.{Located};
 use crate::Section;
 use crate::Sections;

@@ -1,5 +1,5 @@
-// The choice of entry at a place of the text. Every function here is handed the rest of the text from that place on, and knows nothing of what lies
-// before it. Entries are read where they lie, and of each its first character before anything else.
+// The choice of entry at a place of the text. Every function here that looks at the text is handed the rest of it from that place on, and knows nothing
+// of what lies before it. Entries are read where they lie, and of each its first character before anything else.
 
 ghost use mathlib.Core.Path.{_≡_};
 ghost use Prim.Native.Nat.{_+_, _≤_, _<_};
