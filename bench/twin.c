@@ -320,13 +320,11 @@ static struct fault verdict_on(const uint8_t *image, const struct sections *s)
 static const uint8_t *letter_of(const uint8_t *image, const struct sections *s, uint8_t c)
 {
     const uint8_t *r = image + s->alphabet.start;
-    size k;
+    size n = s->alphabet.records, step = s->alphabet.size, k;
 
-    for (k = 0; k < s->alphabet.records; k++) {
+    for (k = 0; k < n; k++, r += step)
         if (r[0] == c)
             return r;
-        r += s->alphabet.size;
-    }
     return 0;
 }
 
@@ -499,13 +497,12 @@ static const uint8_t *search(const uint8_t *image, const struct sections *s, uin
                              const uint8_t *rest, size left)
 {
     const uint8_t *r = image + s->contractions.start;
-    size k;
+    size n = s->contractions.records, step = s->contractions.size, k;
+    uint8_t first = rest[0];
 
-    for (k = 0; k < s->contractions.records; k++) {
-        if (r[1] == rest[0] && admits(image, s, following, states, r, rest, left))
+    for (k = 0; k < n; k++, r += step)
+        if (r[1] == first && admits(image, s, following, states, r, rest, left))
             return r;
-        r += s->contractions.size;
-    }
     return 0;
 }
 
