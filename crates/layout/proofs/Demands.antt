@@ -28,7 +28,7 @@ use Rattle.layout.specs.Fitting.{Fitting, wordsIn}
 use Rattle.layout.specs.Right.{PageRight}
 use Rattle.layout.specs.Signs.{isDotted}
 use Rattle.layout.specs.Drawn.{volumeLines, Drawn}
-use Rattle.layout.specs.Emboss.{bytesOf}
+use Rattle.layout.specs.Emboss.{bytesOfSigns, bytesOf}
 use Rattle.layout.proofs.Permitted as Permitted-laws
 use Rattle.layout.proofs.NoLater as NoLater-laws
 use Rattle.layout.proofs.Counts.{lines-are-64s, pages-are-65s}
@@ -63,27 +63,27 @@ module _ (setting : Setting) (image text : List ℕ) (W P : ℕ) (width : Betwee
 
   -- no line has more than W cells or ends in a blank, its cells are at most 63; no page has more than P lines, or none
   pub text-pages-right : All (PageRight W P) (pagesOf (bytesOf (tableOf image) setting text W P))
-  unfolding bytesOf
+  unfolding bytesOfSigns
   text-pages-right = Sheet-laws.pages-right W P items text-fits page-room
 
   -- the pages, as lists of lines, have the output's bytes
   pub text-pages-bytes : bytesOfPages (pagesOf (bytesOf (tableOf image) setting text W P)) ≡ bytesOf (tableOf image) setting text W P
-  unfolding bytesOf
+  unfolding bytesOfSigns
   text-pages-bytes = Sheet-laws.pages-have-the-bytes W P items text-fits page-room
 
   -- the answer's lines and pages are those of the pages
   pub text-lines-counted :
       length (flatten (pagesOf (bytesOf (tableOf image) setting text W P))) ≡ count lineMark (bytesOf (tableOf image) setting text W P)
-  unfolding bytesOf
+  unfolding bytesOfSigns
   text-lines-counted = Sheet-laws.lines-counted W P items text-fits page-room
 
   pub text-pages-counted : length (pagesOf (bytesOf (tableOf image) setting text W P)) ≡ count pageMark (bytesOf (tableOf image) setting text W P)
-  unfolding bytesOf
+  unfolding bytesOfSigns
   text-pages-counted = Sheet-laws.pages-counted W P items text-fits page-room
 
   -- the cells of the pages that aren't blank are, in order, the signs 1 to 63
   pub text-has-the-signs : only isDotted (flatten (flatten (pagesOf (bytesOf (tableOf image) setting text W P)))) ≡ only isDotted signs
-  unfolding bytesOf piecesOf
+  unfolding bytesOfSigns piecesOf
   text-has-the-signs =
       volume-has-the-signs W P signs (signs-printed (tableOf image) (accepted-sound image accepted) setting (collapsed text)) (let w = width .low in omega arith) page-room
 
@@ -98,16 +98,16 @@ module _ (setting : Setting) (image text : List ℕ) (W P : ℕ) (width : Betwee
 
   -- the spots of our layout are those of the output
   pub text-spots : Drawn (volumeLines (bytesOf (tableOf image) setting text W P)) (wordsIn items) (layoutOf W P items .spots)
-  unfolding bytesOf layoutOf
+  unfolding bytesOfSigns layoutOf
   text-spots = spots-are-the-bytes W P items text-fits page-room
 
   -- and its lines and pages are the output's
   pub text-layout-lines : layoutOf W P items .lines ≡ count lineMark (bytesOf (tableOf image) setting text W P)
-  unfolding bytesOf layoutOf
+  unfolding bytesOfSigns layoutOf
   text-layout-lines = lines-are-64s W P items text-fits page-room
 
   pub text-layout-pages : layoutOf W P items .pages ≡ count pageMark (bytesOf (tableOf image) setting text W P)
-  unfolding bytesOf layoutOf
+  unfolding bytesOfSigns layoutOf
   text-layout-pages = pages-are-65s W P items text-fits page-room
 
   -- every permitted layout arises from choices, and its spots are those of the bytes of the same words with the line ended before each chosen one

@@ -9,11 +9,12 @@ use native.Mathlib.Omega.{arith}
 use lib.ListN.{length, take, drop, length-append}
 use lib.Seq.{drop-append-seam, take-append-seam}
 use Rattle.table.specs.Numbers.{numberDone}
+use Rattle.table.specs.Answers.{FirstLine}
 use Rattle.table.specs.Refusals.{Between}
 use Rattle.table.specs.Table.{tableOf}
 use Rattle.table.specs.Verdict.{verdictOf}
 use Rattle.table.specs.declared.Verdict.the-variants.{Accepted}
-use Rattle.table.proofs.Refusals.{no-refusal-1, no-refusal-2, no-refusal-3, no-refusal-4, accepted}
+use Rattle.table.proofs.Refusals.{accepted-exactly-when}
 use Rattle.table.specs.Lists.{All}
 use Rattle.translation.specs.Collapse.{collapsed}
 use Rattle.translation.specs.Pieces.{piecesOf}
@@ -29,22 +30,18 @@ use Rattle.layout.specs.Right.{PageRight}
 use Rattle.layout.specs.Signs.{isDotted}
 use Rattle.layout.specs.Drawn.{volumeLines, Drawn}
 use Rattle.layout.specs.Emboss.{number, place, written, pieces, lines, pages, Outcome, done, bytesOf, embossFollowed, embossing}
-use Rattle.layout.specs.Refusals.{Line, line-1, line-2, line-3, line-4, line-5, line-8, FirstLine}
+use Rattle.layout.specs.Refusals.{Line, of-table, line-5, line-8}
 use Rattle.layout.specs.Promises.{Embossed}
 use Rattle.layout.specs.Relied.{wrote, textPieces, textItems, Untouched, Bounded, Translates, LaysOut, Earliest}
 use Rattle.layout.specs.declared.Answer.{Answer}
-use Rattle.layout.specs.declared.Answer.the-variants.{Done, Table as TableRefused, Size, LongText, Unknown, Room}
+use Rattle.layout.specs.declared.Answer.the-variants.{Done, Refused}
 use Rattle.layout.proofs.Refusals as Refusals-laws
 use Rattle.layout.proofs.Demands as Demands-laws
 
 -- every answer but the done one counts nothing
 untouched : (a : Answer) {before after : List ℕ} → 0 < number a → after ≡ before → Untouched before a after
 untouched (Done w n l g) h e = absurd (omega arith)
-untouched (TableRefused fault) h e = record { bytes = e; written = refl; pieces = refl; lines = refl; pages = refl }
-untouched Size h e = record { bytes = e; written = refl; pieces = refl; lines = refl; pages = refl }
-untouched LongText h e = record { bytes = e; written = refl; pieces = refl; lines = refl; pages = refl }
-untouched (Unknown at) h e = record { bytes = e; written = refl; pieces = refl; lines = refl; pages = refl }
-untouched (Room needed) h e = record { bytes = e; written = refl; pieces = refl; lines = refl; pages = refl }
+untouched (Refused r) h e = record { bytes = e; written = refl; pieces = refl; lines = refl; pages = refl }
 
 module _ (image text : List ℕ) (W P : ℕ) (before : List ℕ) (answer : Answer) (after : List ℕ) (call : Embossed image text W P before answer after) where
   abbrev outcome : Outcome
@@ -65,15 +62,15 @@ module _ (image text : List ℕ) (W P : ℕ) (before : List ℕ) (answer : Answe
 
   -- a refusal is the answer, with its place, exactly when its line of the paper's table holds and no earlier one does
   pub call-refused-exactly-when : (n p : ℕ) → 0 < n
-      → ((number answer ≡ n) × (place answer ≡ p)) ↔ FirstLine blankFollows image text W P before n p
+      → ((number answer ≡ n) × (place answer ≡ p)) ↔ FirstLine (Line blankFollows image text W P before) n p
   call-refused-exactly-when n p h =
-      subst (λ (a : Answer). ((number a ≡ n) × (place a ≡ p)) ↔ FirstLine blankFollows image text W P before n p) (sym answered)
+      subst (λ (a : Answer). ((number a ≡ n) × (place a ≡ p)) ↔ FirstLine (Line blankFollows image text W P before) n p) (sym answered)
       (Refusals-laws.refused-exactly-when blankFollows image text W P before n p h)
 
   -- the call is done exactly when no line holds
-  pub call-done-exactly-when : (number answer ≡ numberDone) ↔ ((n p : ℕ) → Line blankFollows image text W P before n p → ⊥)
+  pub call-done-exactly-when : (number answer ≡ numberDone) ↔ ((t n p : ℕ) → Line blankFollows image text W P before t n p → ⊥)
   call-done-exactly-when =
-      subst (λ (a : Answer). (number a ≡ numberDone) ↔ ((n p : ℕ) → Line blankFollows image text W P before n p → ⊥)) (sym answered)
+      subst (λ (a : Answer). (number a ≡ numberDone) ↔ ((t n p : ℕ) → Line blankFollows image text W P before t n p → ⊥)) (sym answered)
       (Refusals-laws.done-exactly-when blankFollows image text W P before)
 
   -- a refused call changed no byte and counts nothing
@@ -87,7 +84,7 @@ module _ (image text : List ℕ) (W P : ℕ) (before : List ℕ) (answer : Answe
     whole : outcome ≡ done before bytes (length (textPieces image text))
     whole = Refusals-laws.done-writes blankFollows image text W P before (sym (ap number answered) ∙ is-done)
 
-    no-line : (n p : ℕ) → Line blankFollows image text W P before n p → ⊥
+    no-line : (t n p : ℕ) → Line blankFollows image text W P before t n p → ⊥
     no-line = call-done-exactly-when .0 is-done
 
     -- the answer and the bytes afterwards, spelled out
@@ -111,21 +108,16 @@ module _ (image text : List ℕ) (W P : ℕ) (before : List ℕ) (answer : Answe
 
     table-accepted : verdictOf image ≡ Accepted
     table-accepted =
-        accepted image .1 (
-          no-refusal-1 image .0 (λ x. no-line _ _ (line-1 x)),
-          no-refusal-2 image .0 (λ at x. no-line _ _ (line-2 x)),
-          no-refusal-3 image .0 (λ x. no-line _ _ (line-3 x)),
-          no-refusal-4 image .0 (λ at x. no-line _ _ (line-4 x)),
-        )
+        accepted-exactly-when image .1 (λ t n p x. no-line t n p (of-table x))
 
     sizes : Between leastWidth mostWidth W × Between leastPage mostPage P
-    sizes = Refusals-laws.sizes-right W P (λ x. no-line _ _ (line-5 x))
+    sizes = Refusals-laws.sizes-right W P (λ x. no-line _ _ _ (line-5 x))
 
     room-for : length bytes ≤ length before
     room-for = go (decLt (length before) (length bytes))
       where
         go : Dec (length before < length bytes) → length bytes ≤ length before
-        go (yes l) = absurd (no-line _ _ (line-8 l))
+        go (yes l) = absurd (no-line _ _ _ (line-8 l))
         go (no d) = omega arith
 
     written-within : written answer ≤ length after

@@ -1,4 +1,4 @@
--- The numbers of document 01 for lines and pages, each said once: 'Lines and pages', 'What comes back'.
+-- The numbers of document 01 for lines and pages, each said once: 'Lines and pages'.
 use Prim.Native.Nat.{ℕ}
 
 -- ---- The limits of the width and the page length
@@ -30,11 +30,3 @@ lineMark = 64
 
 abbrev pub pageMark : ℕ
 pageMark = 65
-
--- ---- The numbers of the refusals
-
-abbrev pub numberSize : ℕ
-numberSize = 5
-
-abbrev pub numberRoom : ℕ
-numberRoom = 8

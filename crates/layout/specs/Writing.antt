@@ -4,8 +4,7 @@ use mathlib.Core.List.{List}
 use mathlib.Core.Path.{_≡_}
 use lib.ListN.{length, getD, take}
 use lib.Seq.{sets}
-use Rattle.table.specs.Numbers.{entrySigns}
-use Rattle.translation.specs.Numbers.{mostText}
+use Rattle.table.specs.Numbers.{entrySigns, mostText}
 use Rattle.translation.specs.Signs.{PrintedSign}
 use Rattle.layout.specs.Numbers.{mostWidth}
 use Rattle.layout.specs.Emboss.{roomed}

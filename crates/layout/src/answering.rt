@@ -2,8 +2,6 @@
 
 ghost use Rattle.layout.specs.Promises.{AnswerNumber, AnswerPlace, AnswerWritten, AnswerPieces, AnswerLines, AnswerPages};
 use crate::Answer;
-use table::fault_number;
-use table::fault_place;
 
 impl Answer {
     // 0 where the call is done, and otherwise the paper's number of the refusal.
@@ -17,11 +15,7 @@ impl Answer {
                 lines: _,
                 pages: _,
             } => 0,
-            Answer::Table(fault) => fault_number(fault),
-            Answer::Size => 5,
-            Answer::LongText => 6,
-            Answer::Unknown(_) => 7,
-            Answer::Room(_) => 8,
+            Answer::Refused(r) => r.number(),
         }
     }
 
@@ -35,11 +29,7 @@ impl Answer {
                 lines: _,
                 pages: _,
             } => 0,
-            Answer::Table(fault) => fault_place(fault),
-            Answer::Size => 0,
-            Answer::LongText => 16384,
-            Answer::Unknown(at) => at,
-            Answer::Room(needed) => needed,
+            Answer::Refused(r) => r.place(),
         }
     }
 
@@ -53,11 +43,7 @@ impl Answer {
                 lines: _,
                 pages: _,
             } => n,
-            Answer::Table(_) => 0,
-            Answer::Size => 0,
-            Answer::LongText => 0,
-            Answer::Unknown(_) => 0,
-            Answer::Room(_) => 0,
+            Answer::Refused(_) => 0,
         }
     }
 
@@ -71,11 +57,7 @@ impl Answer {
                 lines: _,
                 pages: _,
             } => n,
-            Answer::Table(_) => 0,
-            Answer::Size => 0,
-            Answer::LongText => 0,
-            Answer::Unknown(_) => 0,
-            Answer::Room(_) => 0,
+            Answer::Refused(_) => 0,
         }
     }
 
@@ -89,11 +71,7 @@ impl Answer {
                 lines: n,
                 pages: _,
             } => n,
-            Answer::Table(_) => 0,
-            Answer::Size => 0,
-            Answer::LongText => 0,
-            Answer::Unknown(_) => 0,
-            Answer::Room(_) => 0,
+            Answer::Refused(_) => 0,
         }
     }
 
@@ -107,11 +85,7 @@ impl Answer {
                 lines: _,
                 pages: n,
             } => n,
-            Answer::Table(_) => 0,
-            Answer::Size => 0,
-            Answer::LongText => 0,
-            Answer::Unknown(_) => 0,
-            Answer::Room(_) => 0,
+            Answer::Refused(_) => 0,
         }
     }
 }

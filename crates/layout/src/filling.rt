@@ -6,6 +6,7 @@ ghost use Rattle.layout.specs.Writing.{Filled, Fillable};
 use crate::Answer;
 use crate::measuring::measure;
 use crate::writing::write;
+use table::Refusal;
 
 // The answer for a text of `pieces` pieces with these signs, and the output afterwards.
 pub(crate) fn fill(signs: &[u8], pieces: usize, width: usize, page: usize, out: &mut [u8]) -> Answer
@@ -23,5 +24,5 @@ pub(crate) fn fill(signs: &[u8], pieces: usize, width: usize, page: usize, out: 
             pages: end.pages,
         };
     }
-    Answer::Room(needed)
+    Answer::Refused(Refusal::Room(needed))
 }

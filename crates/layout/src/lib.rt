@@ -9,7 +9,7 @@ mod moving;
 mod writing;
 
 pub use embossing::emboss;
-use table::Fault;
+use table::Refusal;
 
 // A place on the page: the cells of the line that is being filled, the lines that the page has, whether the next word opens a paragraph,
 // and what has been written so far, in bytes, lines and pages.
@@ -28,7 +28,7 @@ struct Gathering {
     cells: usize,
 }
 
-// What the whole call answers. A refusal has its place where it isn't fixed.
+// What the whole call answers.
 pub enum Answer {
     Done {
         written: usize,
@@ -36,9 +36,5 @@ pub enum Answer {
         lines: usize,
         pages: usize,
     },
-    Table(Fault),
-    Size,
-    LongText,
-    Unknown(usize),
-    Room(usize),
+    Refused(Refusal),
 }

@@ -3,9 +3,8 @@
 ghost use mathlib.Core.Path.{_≡_};
 ghost use Prim.Native.Nat.{_*_, _<_, _≤_, _^_};
 ghost use lib.ListN.{length};
-ghost use Rattle.table.specs.Numbers.{entrySigns};
+ghost use Rattle.table.specs.Numbers.{entrySigns, mostText};
 ghost use Rattle.table.specs.Search.{isThere};
-ghost use Rattle.translation.specs.Numbers.{mostText};
 ghost use Rattle.layout.specs.Numbers.{mostWidth};
 ghost use Rattle.layout.specs.Words.{formatOf, itemsOf};
 ghost use Rattle.layout.specs.Place.{volumeEnd};

@@ -3,8 +3,7 @@
 
 ghost use Prim.Native.Nat.{_+_, _*_, _<_, _≤_, _^_};
 ghost use lib.ListN.{length, replicate, take};
-ghost use Rattle.table.specs.Numbers.{entrySigns};
-ghost use Rattle.translation.specs.Numbers.{mostText};
+ghost use Rattle.table.specs.Numbers.{entrySigns, mostText};
 ghost use Rattle.layout.specs.Numbers.{mostWidth};
 ghost use Rattle.layout.specs.Words.{itemsOf};
 ghost use Rattle.layout.specs.Place.{afterLine, lineBytes, afterLineEnd, lineEndBytes, afterEmptyLine, emptyLineBytes, afterParagraph, paragraphBytes, afterPageEnd, pageEndBytes, cellsAfter, afterWord, wordBytes, volume};

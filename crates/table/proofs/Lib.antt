@@ -10,6 +10,7 @@ pub mod LetterNumbers
 pub mod Grouping
 pub mod GroupLaws
 pub mod VerdictSteps
+pub mod FirstLine
 pub mod Refusals
 pub mod Example
 pub mod Product

@@ -3,10 +3,10 @@ use Prim.Native.Nat.{ℕ}
 use mathlib.Core.List.{List}
 use mathlib.Core.Path.{_≡_, sym, _∙_}
 use denote.Ref.{RefT}
-use Rattle.table.specs.Promises.{Located, RecordByte, RecordPart, Checked, Reads, ReaderVerdict, FaultNumber, FaultPlace}
+use Rattle.table.specs.Promises.{Located, RecordByte, RecordPart, Checked, Reads, ReaderVerdict, RefusalNumber, RefusalPlace}
 use Rattle.table.specs.declared.Section.{Section}
 use Rattle.table.specs.declared.Sections.{Sections}
-use Rattle.table.specs.declared.Fault.{Fault}
+use Rattle.table.specs.declared.Refusal.{Refusal}
 use Rattle.table.specs.declared.Verdict.{Verdict}
 use Rattle.table.specs.declared.Reader.{Reader}
 
@@ -32,8 +32,8 @@ open-determined p q = λ i. record {
 pub reader-verdict-determined : {reader : Reader} {a b : Verdict} → ReaderVerdict reader a → ReaderVerdict reader b → a ≡ b
 reader-verdict-determined p q = p .is ∙ sym (q .is)
 
-pub fault-number-determined : {fault : Fault} {a b : ℕ} → FaultNumber fault a → FaultNumber fault b → a ≡ b
-fault-number-determined p q = p .is ∙ sym (q .is)
+pub refusal-number-determined : {refusal : Refusal} {a b : ℕ} → RefusalNumber refusal a → RefusalNumber refusal b → a ≡ b
+refusal-number-determined p q = p .is ∙ sym (q .is)
 
-pub fault-place-determined : {fault : Fault} {a b : ℕ} → FaultPlace fault a → FaultPlace fault b → a ≡ b
-fault-place-determined p q = p .is ∙ sym (q .is)
+pub refusal-place-determined : {refusal : Refusal} {a b : ℕ} → RefusalPlace refusal a → RefusalPlace refusal b → a ≡ b
+refusal-place-determined p q = p .is ∙ sym (q .is)

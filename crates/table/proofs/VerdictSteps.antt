@@ -18,7 +18,7 @@ use Rattle.table.specs.Refusals.{sectionsBefore}
 use Rattle.table.specs.Found.{found}
 use Rattle.table.specs.Judging.{letterNumber, nameAt, foundWrong}
 use Rattle.table.specs.declared.Sections.{Sections}
-use Rattle.table.specs.declared.Fault.the-variants.{Record, NoBlank, Grouping}
+use Rattle.table.specs.declared.Refusal.the-variants.{Record, NoBlank, Grouping}
 use Rattle.table.specs.declared.Verdict.the-variants.{Accepted, Refused}
 use Rattle.table.specs.declared.Found.the-variants.{At as FoundAt, Nothing}
 use Rattle.table.specs.declared.records.WrongRecord.the-variants.{At, AllRight}

@@ -1,5 +1,6 @@
 pub mod Cells
 pub mod Numbers
+pub mod Answers
 pub mod Search
 pub mod Lists
 pub mod Sections

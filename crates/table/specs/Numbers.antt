@@ -1,4 +1,4 @@
--- The numbers of document 01 for the table image, each said once: 'Cells', 'The table image', 'What comes back'.
+-- The numbers of document 01 for the table image and for the refusals of every call, each said once: 'Cells', 'The table image', 'What comes back'.
 use Prim.Native.Nat.{ℕ}
 
 -- ---- Cells: 0 to 63 are cells, 0 is the blank, and in a table 64 means blank too. 99 is no cell
@@ -196,7 +196,7 @@ byteNo = 78
 abbrev pub dash : ℕ
 dash = 45
 
--- ---- What comes back: the number of each answer about a table, and the place where there is none
+-- ---- What comes back: the number of each answer, and the place where there is none
 
 abbrev pub numberDone : ℕ
 numberDone = 0
@@ -213,5 +213,21 @@ numberNoBlank = 3
 abbrev pub numberGrouping : ℕ
 numberGrouping = 4
 
+abbrev pub numberSize : ℕ
+numberSize = 5
+
+abbrev pub numberLongText : ℕ
+numberLongText = 6
+
+abbrev pub numberUnknown : ℕ
+numberUnknown = 7
+
+abbrev pub numberRoom : ℕ
+numberRoom = 8
+
 abbrev pub noPlace : ℕ
 noPlace = 0
+
+-- the longest text, in bytes, which is the place of refusal 6
+abbrev pub mostText : ℕ
+mostText = 16384

@@ -8,10 +8,11 @@ use lib.Dec.{leb}
 use lib.ListN.{length}
 use denote.Ref.{RefT, now}
 use Rattle.table.specs.Sections.{sectionsOf, offset, recordByte, recordPart}
-use Rattle.table.specs.Verdict.{faultNumber, faultPlace, verdictOf}
+use Rattle.table.specs.Answers.{refusalNumber, refusalPlace}
+use Rattle.table.specs.Verdict.{verdictOf}
 use Rattle.table.specs.declared.Section.{Section}
 use Rattle.table.specs.declared.Sections.{Sections}
-use Rattle.table.specs.declared.Fault.{Fault}
+use Rattle.table.specs.declared.Refusal.{Refusal}
 use Rattle.table.specs.declared.Verdict.{Verdict}
 use Rattle.table.specs.declared.Reader.{Reader}
 
@@ -45,9 +46,9 @@ pub record Reads (image : RefT (List ℕ)) (answer : Reader) : Type 0 where
 pub record ReaderVerdict (reader : Reader) (answer : Verdict) : Type 0 where
   pub is : answer ≡ reader .verdict
 
--- `fault_number` and `fault_place`: the paper's
-pub record FaultNumber (fault : Fault) (answer : ℕ) : Type 0 where
-  pub is : answer ≡ faultNumber fault
+-- `Refusal::number` and `Refusal::place`: the paper's
+pub record RefusalNumber (refusal : Refusal) (answer : ℕ) : Type 0 where
+  pub is : answer ≡ refusalNumber refusal
 
-pub record FaultPlace (fault : Fault) (answer : ℕ) : Type 0 where
-  pub is : answer ≡ faultPlace fault
+pub record RefusalPlace (refusal : Refusal) (answer : ℕ) : Type 0 where
+  pub is : answer ≡ refusalPlace refusal

@@ -58,6 +58,11 @@ use Rattle.table.specs.Numbers.{
   byteYes,
   byteNo,
   dash,
+  numberFrame,
+  numberRecord,
+  numberNoBlank,
+  numberGrouping,
+  noPlace,
 }
 use Rattle.table.specs.Sections.{byteAt, trailerAt, distance, classesIn, variablesIn, sectionsIn, offset, recordByte}
 use Rattle.table.specs.Records.{SectionName, alphabet, contractions, contexts, transitions, decisions, sectionNamed}
@@ -232,3 +237,18 @@ pub record Refusal4 (image : List ℕ) (at : ℕ) : Type 0 where
   pub index : ℕ
   pub first-to-break : FirstToBreak (stringsIn image) index
   pub place : at ≡ offset (sectionsIn image .contractions) index
+
+-- ---- The four lines of a table, in the order in which they are checked
+
+abbrev pub tableLines : ℕ
+tableLines = 4
+
+pub data Line (image : List ℕ) : ℕ → ℕ → ℕ → Type 0 where
+  -- image under 14 bytes, or trailer or section lengths wrong
+  line-1 : Refusal1 image → Line image 1 numberFrame noPlace
+  -- wrong record: offset of the first one, in image order
+  line-2 : {at : ℕ} → Refusal2 image at → Line image 2 numberRecord at
+  -- no alphabet record for blank
+  line-3 : Refusal3 image → Line image 3 numberNoBlank noPlace
+  -- grouping broken: offset of the first record that breaks it
+  line-4 : {at : ℕ} → Refusal4 image at → Line image 4 numberGrouping at

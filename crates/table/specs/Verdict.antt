@@ -3,39 +3,27 @@ use Prim.Native.Nat.{ℕ}
 use mathlib.Core.Bool.{true, false}
 use mathlib.Core.List.{List, map}
 use mathlib.Core.Option.{none, some}
-use Rattle.table.specs.Numbers.{blank, numberDone, numberFrame, numberRecord, numberNoBlank, numberGrouping, noPlace}
+use Rattle.table.specs.Numbers.{blank, numberDone, noPlace}
+use Rattle.table.specs.Answers.{refusalNumber, refusalPlace}
 use Rattle.table.specs.Search.{member}
 use Rattle.table.specs.Sections.{frameRight, sectionsIn, offset}
 use Rattle.table.specs.Records.{symbols, firstWrong, sectionNamed}
 use Rattle.table.specs.Table.{Table, Entry, tableIn}
 use Rattle.table.specs.Grouping.{firstBreak}
 use Rattle.table.specs.declared.Sections.{Sections}
-use Rattle.table.specs.declared.Fault.{Fault}
-use Rattle.table.specs.declared.Fault.the-variants.{Frame, Record, NoBlank, Grouping}
+use Rattle.table.specs.declared.Refusal.the-variants.{Frame, Record, NoBlank, Grouping}
 use Rattle.table.specs.declared.Verdict.{Verdict}
 use Rattle.table.specs.declared.Verdict.the-variants.{Accepted, Refused}
 
 -- ---- Each case's number and place
 
-abbrev pub faultNumber : Fault → ℕ
-faultNumber Frame = numberFrame
-faultNumber (Record at) = numberRecord
-faultNumber NoBlank = numberNoBlank
-faultNumber (Grouping at) = numberGrouping
-
-abbrev pub faultPlace : Fault → ℕ
-faultPlace Frame = noPlace
-faultPlace (Record at) = at
-faultPlace NoBlank = noPlace
-faultPlace (Grouping at) = at
-
 abbrev pub verdictNumber : Verdict → ℕ
 verdictNumber Accepted = numberDone
-verdictNumber (Refused fault) = faultNumber fault
+verdictNumber (Refused r) = refusalNumber r
 
 abbrev pub verdictPlace : Verdict → ℕ
 verdictPlace Accepted = noPlace
-verdictPlace (Refused fault) = faultPlace fault
+verdictPlace (Refused r) = refusalPlace r
 
 -- ---- The checks, in the paper's order: the frame, the records, the blank, the grouping
 

@@ -1,11 +1,11 @@
-// The verdict on an image: the frame, the records, the blank and the grouping, in this order, and the paper's number and place of each refusal.
+// The verdict on an image: the frame, the records, the blank and the grouping, in this order.
 
 ghost use mathlib.Core.Path.{_≡_};
 ghost use Prim.Native.Nat.{_+_, _<_};
 ghost use Rattle.table.specs.Verdict.{recordsVerdict};
-ghost use Rattle.table.specs.Promises.{Located, Checked, FaultNumber, FaultPlace};
-use crate::Fault;
+ghost use Rattle.table.specs.Promises.{Located, Checked};
 use crate::Found;
+use crate::Refusal;
 use crate::Sections;
 use crate::Verdict;
 use crate::groups::first_break;
@@ -22,14 +22,14 @@ fn judged(image: &[u8], s: Sections) -> Verdict
 {
     let letters = letters_by_symbol(image, s);
     if let WrongRecord::At(i, k) = first_wrong(image, s, &letters) {
-        return Verdict::Refused(Fault::Record(offset_of(section_at(s, i), k)));
+        return Verdict::Refused(Refusal::Record(offset_of(section_at(s, i), k)));
     }
     if letters[32] == 0 {
-        return Verdict::Refused(Fault::NoBlank);
+        return Verdict::Refused(Refusal::NoBlank);
     }
     let contractions = s.contractions;
     match first_break(image, s) {
-        Found::At(r) => Verdict::Refused(Fault::Grouping(offset_of(contractions, r))),
+        Found::At(r) => Verdict::Refused(Refusal::Grouping(offset_of(contractions, r))),
         Found::Nothing => Verdict::Accepted,
     }
 }
@@ -40,31 +40,7 @@ pub(crate) fn verdict_on(image: &[u8], s: Sections) -> Verdict
     ensures { λ r. ⌜ Checked (now (image .entry)) r ⌝ }
 {
     if s.classes == 0 {
-        return Verdict::Refused(Fault::Frame);
+        return Verdict::Refused(Refusal::Frame);
     }
     judged(image, s)
-}
-
-// The paper's number of a refusal.
-pub fn fault_number(f: Fault) -> u8
-    ensures { λ r. ⌜ FaultNumber f r ⌝ }
-{
-    match f {
-        Fault::Frame => 1,
-        Fault::Record(_) => 2,
-        Fault::NoBlank => 3,
-        Fault::Grouping(_) => 4,
-    }
-}
-
-// The paper's place of a refusal.
-pub fn fault_place(f: Fault) -> usize
-    ensures { λ r. ⌜ FaultPlace f r ⌝ }
-{
-    match f {
-        Fault::Frame => 0,
-        Fault::Record(at) => at,
-        Fault::NoBlank => 0,
-        Fault::Grouping(at) => at,
-    }
 }

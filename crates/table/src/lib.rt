@@ -7,9 +7,8 @@ mod judge;
 mod opening;
 mod read;
 mod records;
+mod refusing;
 
-pub use judge::fault_number;
-pub use judge::fault_place;
 pub use opening::check;
 pub use opening::open;
 pub use read::record_byte;
@@ -33,18 +32,22 @@ pub struct Sections {
     pub variables: u16,
 }
 
-// Why an image is refused. A record is named by its offset in the image.
-pub enum Fault {
+// Why a call is refused, whichever it is: the paper's table of refusals, each with its place where that isn't fixed.
+pub enum Refusal {
     Frame,
     Record(usize),
     NoBlank,
     Grouping(usize),
+    Size,
+    LongText,
+    Unknown(usize),
+    Room(usize),
 }
 
 // What a check of an image answers.
 pub enum Verdict {
     Accepted,
-    Refused(Fault),
+    Refused(Refusal),
 }
 
 // An opened image: the image as it was lent, its sections, and the verdict on it.

@@ -20,5 +20,4 @@ pub mod Fronts
 pub mod Cursor
 pub mod Outcomes
 pub mod Promises
-pub mod Answered
 pub mod Accepted

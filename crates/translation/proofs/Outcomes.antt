@@ -1,74 +1,104 @@
--- The outcomes of a translation, case by case: each refusal with the signs as they were, and the pieces with their signs at the front.
+-- What a text comes to, check by check, and what the call then hands back: a refusal with the signs as they were, or the pieces with their signs at the front.
 use Prim.Native.Nat.{ℕ, _≤_, _<_}
 use mathlib.Core.List.{List}
 use mathlib.Core.Option.{Option, none, some}
-use mathlib.Core.Path.{_≡_, refl, sym, ap, ap₂, subst}
+use mathlib.Core.Path.{_≡_, refl, ap₂}
+use native.Mathlib.Decide.{decLe}
+use native.Mathlib.Omega.{arith}
 use lib.ListN.{length}
 use borrow.Author.Tests.{le-leb, lt-leb}
 use Rattle.table.specs.Table.{Table, tableOf}
 use Rattle.table.specs.Verdict.{verdictOf}
-use Rattle.table.specs.declared.Fault.{Fault}
+use Rattle.table.specs.declared.Refusal.{Refusal}
+use Rattle.table.specs.declared.Refusal.the-variants.{LongText, Unknown}
 use Rattle.table.specs.declared.Verdict.{Verdict}
-use Rattle.table.specs.declared.Verdict.the-variants.{Accepted, Refused}
-use Rattle.translation.specs.Numbers.{mostText}
-use Rattle.translation.specs.Collapse.{collapsed}
+use Rattle.table.specs.declared.Verdict.the-variants.{Accepted, Refused as NotAccepted}
+use Rattle.table.specs.Numbers.{mostText}
 use Rattle.translation.specs.Letters.{firstUnknown}
-use Rattle.translation.specs.Pieces.{piecesIn, piecesOf}
+use Rattle.translation.specs.Pieces.{Piece, piecesOf}
 use Rattle.translation.specs.Inside.{Consumed}
-use Rattle.translation.specs.Translate.{Outcome, Ends, refused, done, translateBy, translateFollowed}
+use Rattle.translation.specs.Translate.{Result, made, refused, translateBy, translateAlso, translateOn, handed, Ends}
 use Rattle.translation.specs.declared.Setting.{Setting}
+use Rattle.translation.specs.declared.Terms.{Terms}
 use Rattle.translation.specs.declared.Translation.{Translation}
-use Rattle.translation.specs.declared.Translation.the-variants.{Done, Table as TableRefused, LongText, Unknown}
+use Rattle.translation.specs.declared.Translation.the-variants.{Done, Refused}
 use Rattle.translation.specs.declared.piecing.Counts.{Counts}
 use Rattle.translation.proofs.Writing.{front-long, front-and-beyond}
 
 -- ---- The text
 
-module _ (table : Table) (setting : Setting) (text before : List ℕ) where
-  pub too-long : mostText < length text → Ends (translateBy table setting text before) LongText before
-  unfolding translateBy refused
-  too-long l = rw (lt-leb (length text) mostText l, translateBy) (record { answers = refl; leaves = refl })
+module _ (table : Table) (setting : Setting) (text : List ℕ) where
+  pub too-long : mostText < length text → translateBy table setting text ≡ refused LongText
+  unfolding translateBy
+  too-long l = rw (lt-leb (length text) mostText l, translateBy)
 
-  module _ (short : length text ≤ mostText) where
-    -- what is left to judge of a text that is short enough
-    by-unknown : Option ℕ → Outcome
-    by-unknown o = elim o [ none ↦ done before (piecesOf table setting text) | some at ↦ refused before (Unknown at) ]
+  pub unknown-at : (i : ℕ) → length text ≤ mostText → firstUnknown (table .letters) text ≡ some i → translateBy table setting text ≡ refused (Unknown i)
+  unfolding translateBy
+  unknown-at i short e = rw (le-leb (length text) mostText short, translateBy, e)
 
-    judged : (o : Option ℕ) → firstUnknown (table .letters) text ≡ o → translateBy table setting text before ≡ by-unknown o
-    unfolding translateBy by-unknown
-    judged o e = rw (le-leb (length text) mostText short, translateBy) (ap by-unknown e)
+  pub made-by : length text ≤ mostText → firstUnknown (table .letters) text ≡ none → translateBy table setting text ≡ made (piecesOf table setting text)
+  unfolding translateBy
+  made-by short e = rw (le-leb (length text) mostText short, translateBy, e)
 
-    pub unknown-at : (i : ℕ) → firstUnknown (table .letters) text ≡ some i → Ends (translateBy table setting text before) (Unknown i) before
-    unfolding by-unknown refused
-    unknown-at i e = subst (λ (o : Outcome). Ends o (Unknown i) before) (sym (judged (some i) e)) (record { answers = refl; leaves = refl })
+-- ---- The table, and the caller's own checks
 
-    pub done-by : firstUnknown (table .letters) text ≡ none → translateBy table setting text before ≡ done before (piecesOf table setting text)
-    unfolding by-unknown
-    done-by e = judged none e
+module _ (terms : Terms) (image text : List ℕ) where
+  pub table-refused : (r : Refusal) → verdictOf image ≡ NotAccepted r → translateOn terms image text ≡ refused r
+  unfolding translateOn
+  table-refused r e = rw (e, translateOn)
 
-    pub all-done : {after : List ℕ} {counts : Counts} → firstUnknown (table .letters) text ≡ none
-        → Consumed (piecesIn table setting (collapsed text)) before after counts
-        → Ends (translateBy table setting text before) (Done (counts .pieces) (counts .signs)) after
-    unfolding done piecesOf
-    all-done {after} {counts} e c =
-        subst (λ (o : Outcome). Ends o (Done (counts .pieces) (counts .signs)) after) (sym (done-by e))
-        (record { answers = ap₂ Done (c .counted) (front-long (c .wrote)); leaves = front-and-beyond (c .wrote) })
+  pub also-refused : (r : Refusal) → verdictOf image ≡ Accepted → terms .also ≡ NotAccepted r → translateOn terms image text ≡ refused r
+  unfolding translateOn translateAlso
+  also-refused r e f = rw (e, translateOn) (rw (f, translateAlso))
 
--- ---- The table
+  pub goes-on : verdictOf image ≡ Accepted → terms .also ≡ Accepted → translateOn terms image text ≡ translateBy (tableOf image) (terms .setting) text
+  unfolding translateOn translateAlso
+  goes-on e f = rw (e, translateOn) (rw (f, translateAlso))
 
-module _ (setting : Setting) (image text before : List ℕ) where
-  by-verdict : Verdict → Outcome
-  by-verdict v = elim v [ Accepted ↦ translateBy (tableOf image) setting text before | Refused fault ↦ refused before (TableRefused fault) ]
+  -- pieces are made only where nothing is refused
+  pub record Made (ps : List Piece) : Type 0 where
+    pub accepted : verdictOf image ≡ Accepted
+    pub allowed : terms .also ≡ Accepted
+    pub short : length text ≤ mostText
+    pub pieces : ps ≡ piecesOf (tableOf image) (terms .setting) text
 
-  pub table-refused : (fault : Fault) → verdictOf image ≡ Refused fault → Ends (translateFollowed setting image text before) (TableRefused fault) before
-  unfolding translateFollowed by-verdict refused
-  table-refused fault e =
-      subst (λ (o : Outcome). Ends o (TableRefused fault) before) (sym (ap by-verdict e)) (record { answers = refl; leaves = refl })
+  pub made-means : {ps : List Piece} → translateOn terms image text ≡ made ps → Made ps
+  made-means {ps} e = by-verdict (verdictOf image) refl (terms .also) refl
+    where
+      by-letters : verdictOf image ≡ Accepted → terms .also ≡ Accepted → length text ≤ mostText → (o : Option ℕ)
+          → firstUnknown (tableOf image .letters) text ≡ o → Made ps
+      by-letters v a short none f =
+          let m = made-by (tableOf image) (terms .setting) text short f in
+          let g = goes-on v a in
+          record { accepted = v; allowed = a; short = short; pieces = cc }
+      by-letters v a short (some at) f =
+          let m = unknown-at (tableOf image) (terms .setting) text at short f in
+          let g = goes-on v a in
+          let z : _≡_ {A = ℕ} 0 1 = cc in absurd (omega arith)
 
-  pub followed-by : verdictOf image ≡ Accepted → translateFollowed setting image text before ≡ translateBy (tableOf image) setting text before
-  unfolding translateFollowed by-verdict
-  followed-by e = ap by-verdict e
+      by-length : verdictOf image ≡ Accepted → terms .also ≡ Accepted → Dec (length text ≤ mostText) → Made ps
+      by-length v a (yes short) = by-letters v a short (firstUnknown (tableOf image .letters) text) refl
+      by-length v a (no d) =
+          let m = too-long (tableOf image) (terms .setting) text (omega arith) in
+          let g = goes-on v a in
+          let z : _≡_ {A = ℕ} 0 1 = cc in absurd (omega arith)
 
-  pub table-accepted : {answer : Translation} {after : List ℕ} → verdictOf image ≡ Accepted
-      → Ends (translateBy (tableOf image) setting text before) answer after → Ends (translateFollowed setting image text before) answer after
-  table-accepted {answer} {after} e ends = subst (λ (o : Outcome). Ends o answer after) (sym (followed-by e)) ends
+      by-verdict : (v : Verdict) → verdictOf image ≡ v → (a : Verdict) → terms .also ≡ a → Made ps
+      by-verdict (NotAccepted r) v a f = let m = table-refused r v in let z : _≡_ {A = ℕ} 0 1 = cc in absurd (omega arith)
+      by-verdict Accepted v (NotAccepted r) f = let m = also-refused r v f in let z : _≡_ {A = ℕ} 0 1 = cc in absurd (omega arith)
+      by-verdict Accepted v Accepted f = by-length v f (decLe (length text) mostText)
+
+-- ---- What the call hands back
+
+pub ends-refused : {result : Result} {before : List ℕ} {r : Refusal} → result ≡ refused r → Ends (handed before result) (Refused r) before
+unfolding handed
+ends-refused e = rw (e, handed) (record { answers = refl; leaves = refl })
+
+pub ends-made : {result : Result} {before after : List ℕ} {pieces : List Piece} {counts : Counts} → result ≡ made pieces
+    → Consumed pieces before after counts → Ends (handed before result) (Done (counts .pieces) (counts .signs)) after
+unfolding handed
+ends-made e c = rw (e, handed) (record { answers = ap₂ Done (c .counted) (front-long (c .wrote)); leaves = front-and-beyond (c .wrote) })
+
+pub ends-as : {result same : Result} (before : List ℕ) {after : List ℕ} {answer : Translation} → result ≡ same → Ends (handed before same) answer after
+    → Ends (handed before result) answer after
+ends-as before e ends = rw e ends

@@ -5,8 +5,8 @@ use Rattle.translation.specs.Letters.{letterOf, letterFor, classOf, isUn
 use Rattle.translation.specs.Decide.{startStates, byteOfClass, turned, moved, conditionHolds, conditionsHold, ruling, decided}
 use Rattle.translation.specs.Choose.{begins, classAfter, contextHolds, admissible, choice}
 use Rattle.translation.specs.Pieces.{characters, pieceBy, frontPiece, piecesFrom, piecesIn, printed, signsOf, piecesOf}
-use Rattle.translation.specs.Translate.{refused, done, translateBy, translateFollowed, translation}
+use Rattle.translation.specs.Translate.{translateBy, translateAlso, translateOn, handed, translation}
 
 unfoldable pub computing : Unit {0}
-unfolding computing-table unfed unbarred keptAfter thinned collapsed letterOf letterFor classOf isUnknown firstUnknown startStates byteOfClass turned moved conditionHolds conditionsHold ruling decided begins classAfter contextHolds admissible choice characters pieceBy frontPiece piecesFrom piecesIn printed signsOf piecesOf refused done translateBy translateFollowed translation
+unfolding computing-table unfed unbarred keptAfter thinned collapsed letterOf letterFor classOf isUnknown firstUnknown startStates byteOfClass turned moved conditionHolds conditionsHold ruling decided begins classAfter contextHolds admissible choice characters pieceBy frontPiece piecesFrom piecesIn printed signsOf piecesOf translateBy translateAlso translateOn handed translation
 computing = tt

@@ -1,4 +1,4 @@
--- The numbers of document 01 for the text, each said once: 'Collapsing the text', 'What comes back'.
+-- The numbers of document 01 for the text, each said once: 'Collapsing the text'.
 use Prim.Native.Nat.{ℕ}
 
 abbrev pub lineFeed : ℕ
@@ -13,13 +13,3 @@ keptBlanks = 1
 
 abbrev pub keptAfterPeriod : ℕ
 keptAfterPeriod = 2
-
--- the longest text, in bytes
-abbrev pub mostText : ℕ
-mostText = 16384
-
-abbrev pub numberLongText : ℕ
-numberLongText = 6
-
-abbrev pub numberUnknown : ℕ
-numberUnknown = 7

@@ -4,9 +4,8 @@ use mathlib.Core.List.{List}
 use mathlib.Core.Logic.{_≢_}
 use mathlib.Core.Path.{_≡_}
 use lib.ListN.{length, getD}
-use Rattle.table.specs.Numbers.{bar}
+use Rattle.table.specs.Numbers.{bar, mostText}
 use Rattle.table.specs.Table.{Letter}
-use Rattle.translation.specs.Numbers.{mostText}
 use Rattle.translation.specs.Collapse.{unfed}
 use Rattle.translation.specs.Letters.{letter}
 

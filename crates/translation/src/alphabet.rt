@@ -4,7 +4,7 @@ ghost use mathlib.Core.Path.{_≡_};
 ghost use Prim.Native.Nat.{_≤_};
 ghost use lib.ListN.{length};
 ghost use Rattle.table.specs.Table.{tableIn};
-ghost use Rattle.translation.specs.Numbers.{mostText};
+ghost use Rattle.table.specs.Numbers.{mostText};
 ghost use Rattle.translation.specs.Letters.{letterOf, letterFor, classOf, isUnknown, firstUnknown};
 ghost use Rattle.translation.specs.Opened.{Opened};
 ghost use Rattle.translation.specs.Found.{found};

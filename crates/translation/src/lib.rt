@@ -9,12 +9,19 @@ mod piecing;
 mod translating;
 mod variables;
 
-use table::Fault;
+use table::Refusal;
+use table::Verdict;
 pub use translating::translate;
 
 // What a translation is told besides the table and the text: the symbol that follows the end of the text.
 pub struct Setting {
     pub following: u8,
+}
+
+// On which terms a text is translated: its setting, and what the caller's own checks say, which come after the table's and before the text's.
+pub struct Terms {
+    pub setting: Setting,
+    pub also: Verdict,
 }
 
 // What a search answers: the number of a record, or a place of the text.
@@ -23,10 +30,8 @@ pub(crate) enum Found {
     Nothing,
 }
 
-// What a translation answers: how many pieces and how many signs, or the refusal, with its place where it isn't fixed.
+// What a translation answers: how many pieces and how many signs, or the refusal.
 pub enum Translation {
-    Table(Fault),
-    LongText,
-    Unknown(usize),
     Done { pieces: usize, signs: usize },
+    Refused(Refusal),
 }

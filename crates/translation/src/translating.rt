@@ -2,20 +2,21 @@
 
 ghost use Prim.Native.Nat.{_*_, _≤_};
 ghost use lib.ListN.{length};
-ghost use Rattle.table.specs.Numbers.{entrySigns};
+ghost use Rattle.table.specs.Numbers.{entrySigns, mostText};
 ghost use Rattle.table.specs.Promises.{Located, Checked, Reads};
 ghost use Rattle.table.specs.Table.{tableIn};
-ghost use Rattle.translation.specs.Numbers.{mostText};
 ghost use Rattle.translation.specs.Opened.{Opened};
-ghost use Rattle.translation.specs.Translate.{Ends, translateBy, translateFollowed};
+ghost use Rattle.translation.specs.Translate.{Ends, handed, translateBy, translateOn};
 ghost use Rattle.translation.specs.Promises.{Translated};
 use crate::Found;
 use crate::Setting;
+use crate::Terms;
 use crate::Translation;
 use crate::alphabet::first_unknown;
 use crate::collapsing::collapse;
 use crate::piecing::consume;
 use table::Reader;
+use table::Refusal;
 use table::Sections;
 use table::Verdict;
 
@@ -29,16 +30,16 @@ fn translate_by(
 ) -> Translation
     requires { ⌜ Opened (now image) s ⌝ }
     requires { ⌜ entrySigns * mostText ≤ length (now signs) ⌝ }
-    ensures { λ r. ⌜ Ends (translateBy (tableIn (now (image .entry)) s) setting (now (text .entry)) (now (signs .entry))) r (now (signs .exit)) ⌝ }
+    ensures { λ r. ⌜ Ends (handed (now (signs .entry)) (translateBy (tableIn (now (image .entry)) s) setting (now (text .entry)))) r (now (signs .exit)) ⌝ }
 {
     if 16384 < text.len() {
-        return Translation::LongText;
+        return Translation::Refused(Refusal::LongText);
     }
     let mut buffer = [0u8; 16384];
     let n = collapse(text, &mut buffer);
     let collapsed = &buffer[..n];
     match first_unknown(image, s, text) {
-        Found::At(i) => Translation::Unknown(i as usize),
+        Found::At(i) => Translation::Refused(Refusal::Unknown(i as usize)),
         Found::Nothing => {
             let counts = consume(image, s, setting, collapsed, signs);
             Translation::Done {
@@ -49,45 +50,59 @@ fn translate_by(
     }
 }
 
-// Refusals 1 to 4, or what the table of the image makes of the text, by the sections and the verdict that the image was opened with.
+// Refusals 1 to 4, or the caller's own, or what the table of the image makes of the text, by the sections and the verdict that the image was opened with.
 fn translate_judged(
     image: &[u8],
     s: Sections,
     verdict: Verdict,
-    setting: Setting,
+    terms: Terms,
     text: &[u8],
     signs: &mut [u8],
 ) -> Translation
     requires { ⌜ Located (now image) s × Checked (now image) verdict × (entrySigns * mostText ≤ length (now signs)) ⌝ }
-    ensures { λ r. ⌜ Ends (translateFollowed setting (now (image .entry)) (now (text .entry)) (now (signs .entry))) r (now (signs .exit)) ⌝ }
+    ensures { λ r. ⌜ Ends (handed (now (signs .entry)) (translateOn terms (now (image .entry)) (now (text .entry)))) r (now (signs .exit)) ⌝ }
 {
+    let also = terms.also;
+    let setting = terms.setting;
     match verdict {
-        Verdict::Refused(fault) => Translation::Table(fault),
-        Verdict::Accepted => translate_by(image, s, setting, text, signs),
+        Verdict::Refused(refusal) => Translation::Refused(refusal),
+        Verdict::Accepted => match also {
+            Verdict::Refused(own) => Translation::Refused(own),
+            Verdict::Accepted => translate_by(image, s, setting, text, signs),
+        },
     }
 }
 
 // The same by a reader of the image: it is taken apart.
-fn translate_read(r: Reader, setting: Setting, text: &[u8], signs: &mut [u8]) -> Translation
+fn translate_read(r: Reader, terms: Terms, text: &[u8], signs: &mut [u8]) -> Translation
     requires { ⌜ Reads (r .image) r × (entrySigns * mostText ≤ length (now signs)) ⌝ }
-    ensures { λ t. ⌜ Ends (translateFollowed setting (now (r .entry .image)) (now (text .entry)) (now (signs .entry))) t (now (signs .exit)) ⌝ }
+    ensures { λ t. ⌜ Ends (handed (now (signs .entry)) (translateOn terms (now (r .entry .image)) (now (text .entry)))) t (now (signs .exit)) ⌝ }
 {
-    translate_judged(r.image, r.sections, r.verdict, setting, text, signs)
+    translate_judged(r.image, r.sections, r.verdict, terms, text, signs)
 }
 
-// Refusals 1 to 4, or what the table of the image makes of the text, where `setting` says what follows it. Here the image is opened.
-fn translate_followed(setting: Setting, image: &[u8], text: &[u8], signs: &mut [u8]) -> Translation
+// The same by the image, which is opened here.
+fn translate_on(terms: Terms, image: &[u8], text: &[u8], signs: &mut [u8]) -> Translation
     requires { ⌜ entrySigns * mostText ≤ length (now signs) ⌝ }
-    ensures { λ r. ⌜ Ends (translateFollowed setting (now (image .entry)) (now (text .entry)) (now (signs .entry))) r (now (signs .exit)) ⌝ }
+    ensures { λ r. ⌜ Ends (handed (now (signs .entry)) (translateOn terms (now (image .entry)) (now (text .entry)))) r (now (signs .exit)) ⌝ }
 {
     let r = table::open(image);
-    translate_read(r, setting, text, signs)
+    translate_read(r, terms, text, signs)
 }
 
 // Translates a text by a table: the refusal, or how many pieces it has and how many signs, which stand at the front of `signs`. What lies beyond them, and
-// all of `signs` where it is refused, is as it was.
-pub fn translate(image: &[u8], text: &[u8], signs: &mut [u8; 65536]) -> Translation
-    ensures { λ r. ⌜ Translated (now (image .entry)) (now (text .entry)) (now (signs .entry)) r (now (signs .exit)) ⌝ }
+// all of `signs` where it is refused, is as it was. `also` is what the caller's own checks say: they come after the table's and before the text's.
+pub fn translate(image: &[u8], text: &[u8], also: Verdict, signs: &mut [u8; 65536]) -> Translation
+    ensures { λ r. ⌜ Translated (now (image .entry)) (now (text .entry)) also (now (signs .entry)) r (now (signs .exit)) ⌝ }
 {
-    translate_followed(Setting { following: 32 }, image, text, signs)
+    let setting = Setting { following: 32 };
+    translate_on(
+        Terms {
+            setting: setting,
+            also: also,
+        },
+        image,
+        text,
+        signs,
+    )
 }

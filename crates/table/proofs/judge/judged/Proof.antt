@@ -8,7 +8,7 @@ use Rattle.table.proofs.VerdictSteps.{wrong-refused, records-right, no-
 use Prim.Native.Nat.{ℕ}
 use Rattle.table.specs.Sections.{offset}
 use Rattle.table.specs.declared.Section.{Section}
-use Rattle.table.specs.declared.Fault.the-variants.{Record, Grouping}
+use Rattle.table.specs.declared.Refusal.the-variants.{Record, Grouping}
 use Rattle.table.specs.declared.Verdict.the-variants.{Refused}
 use Rattle.table.proofs.judge.judged.Statement.{statement}
 use Rattle.table.proofs.judge.judged.Tie as tie

@@ -4,14 +4,14 @@ use Rattle.translation.specs.Translate.{translation}
 use Rattle.translation.proofs.translating.translate.Statement.{statement}
 use Rattle.translation.proofs.translating.translate.Tie as tie
 
-translate-followed-requires : tie.Need-translate-followed-requires
-translate-followed-requires c κs = search needs
+translate-on-requires : tie.Need-translate-on-requires
+translate-on-requires c κs = search needs
 
 returns : tie.Need-returns
 unfolding translation
 returns c =
-    let ends = c .translate-followed .ensures in
+    let ends = c .translate-on .ensures in
     record { answers = ends .answers; leaves = ends .leaves }
 
 pub translate-spec : {M : Type 1} → statement M
-translate-spec = tie.close (tie.spec translate-followed-requires returns)
+translate-spec = tie.close (tie.spec translate-on-requires returns)

@@ -4,14 +4,15 @@ use borrow.Author.Needs.{needs}
 use mathlib.Core.Path.{sym, _∙_, ap}
 use native.Mathlib.Omega.{arith}
 use Rattle.translation.specs.Found.{found}
+use Rattle.translation.specs.Pieces.{piecesOf}
 use Rattle.translation.proofs.Collapse.{collapsed-at-most}
 use Rattle.translation.proofs.Writing.{front-long, front-is}
-use Rattle.translation.proofs.Outcomes.{too-long, unknown-at, all-done}
+use Rattle.translation.proofs.Outcomes.{too-long, unknown-at, made-by, ends-refused, ends-made}
 use Rattle.translation.proofs.translating.translate_by.Statement.{statement}
 use Rattle.translation.proofs.translating.translate_by.Tie as tie
 
 returns : tie.Need-returns
-returns c = too-long _ _ _ _ (c .if1 .taken)
+returns c = ends-refused (too-long _ _ _ (c .if1 .taken))
 
 slice-aggregate-collapse : tie.Need-slice-aggregate-collapse
 slice-aggregate-collapse c = search needs
@@ -33,8 +34,8 @@ first-unknown-requires c κs = search needs
 enum-known-i : tie.Need-enum-known-i
 enum-known-i c = search needs
 
-cast-t18 : tie.Need-cast-t18
-cast-t18 c = search needs
+cast-t19 : tie.Need-cast-t19
+cast-t19 c = search needs
 
 enum-told : tie.Need-enum-told
 enum-told c = search needs
@@ -51,16 +52,17 @@ returns-2 : tie.Need-returns-2
 returns-2 c =
     let known = c .before in
     let place = sym (known .before .before .first-unknown .ensures) ∙ ap found (known .i .given .1) in
-    unknown-at _ _ _ _ (c .before .before .before .before .before .before .before .before .if1 .left) _ place
+    ends-refused (unknown-at _ _ _ _ (c .before .before .before .before .before .before .before .before .if1 .left) place)
 
 same-length : tie.Need-same-length
 same-length c = search needs
 
 returns-3 : tie.Need-returns-3
+unfolding piecesOf
 returns-3 c =
     let told = c .before .before .before .before in
     let known = sym (told .before .before .first-unknown .ensures) ∙ ap found (told .enum-told .given .1) in
-    all-done _ _ _ _ (c .before .before .before .before .before .before .before .before .before .before .before .if1 .left) known
+    ends-made (made-by _ _ _ (c .before .before .before .before .before .before .before .before .before .before .before .if1 .left) known)
     (rw (front-is (c .before .before .before .before .before .before .before .before .before .collapse .ensures)) at (c .before .before .consume .ensures))
 
 pub translate-by-spec : {M : Type 1} → statement M
@@ -74,7 +76,7 @@ translate-by-spec =
     slice-aggregate-collapsed
     first-unknown-requires
     enum-known-i
-    cast-t18
+    cast-t19
     enum-told
     consume-requires
     returns-2

@@ -34,22 +34,20 @@ use denote.Triple.Entry.{Args, Vals, alive, onEntry}
 use denote.Triple.Spec.{Meets}
 use denote.Triple.Statement.{Triple}
 use denote.Triple.Walked.{needs}
-use Rattle.table.specs.Numbers.{entrySigns}
+use Rattle.table.specs.Numbers.{entrySigns, mostText}
 use Rattle.table.specs.Promises.{Reads}
 use Rattle.table.specs.declared.Reader.{Reader}
-use Rattle.table.proofs.Walks.{Met, starts, calls, ends, of-local, gone, known, framed, closes}
-use Rattle.table.proofs.Walks.{Bytes, Buffer, bytes, bytes-typed, buffer-typed, sections-typed, verdict-typed, reader-typed}
+use Rattle.table.proofs.Walks.{Met, starts, calls, ends, of-local, gone, known, framed, closes, Bytes, Buffer, bytes, bytes-typed, buffer-typed, sections-typed, verdict-typed, reader-typed}
 use Rattle.table.proofs.Reader as R
 use Rattle.table.proofs.Reader.Laws as R′
 use Rattle.table.proofs.Sections as S
 use Rattle.table.proofs.Sections.Laws as S′
 use Rattle.table.proofs.Verdict as E
 use Rattle.table.proofs.Verdict.Laws as E′
-use Rattle.translation.specs.Numbers.{mostText}
-use Rattle.translation.specs.Translate.{Ends, translateFollowed}
-use Rattle.translation.specs.declared.Setting.{Setting}
-use Rattle.translation.proofs.Setting as P
-use Rattle.translation.proofs.Setting.Laws as P′
+use Rattle.translation.specs.Translate.{Ends, handed, translateOn}
+use Rattle.translation.specs.declared.Terms.{Terms}
+use Rattle.translation.proofs.Terms as P
+use Rattle.translation.proofs.Terms.Laws as P′
 use Rattle.translation.proofs.Translation as T
 use Rattle.translation.proofs.Translation.Laws as T′
 use Rattle.translation.proofs.translating.translate_judged as judged
@@ -68,19 +66,19 @@ abbrev α : Lfts 3 → NamedLft
 module _ {M : Type 1} (𝓤 : URA M) (H : Heap 𝓤) (A : Atoms 𝓤) (W : Given 𝓤 H A) (mem : Memory → SProp 𝓤) (run : Routine → Fun 𝓤)
     (C : Calls 𝓤 H) (Λ : Loops 𝓤 H) (fm : FmC 𝓤 H (W .laws) C)
     (met : Triple 𝓤 (C #translation·translate-judged) (Met 𝓤 H A judged.ended (judged.clauses 𝓤 H A mem run))) where
-  module _ (κs : Lfts 3) (qs : Shares 3) (d : Reader) (p : Setting) (t x : RefT (List ℕ)) where
+  module _ (κs : Lfts 3) (qs : Shares 3) (d : Reader) (p : Terms) (t x : RefT (List ℕ)) where
     -- the parameters' values and machine values, and what they own
     abbrev reader : Val
     reader = LL.val (R.the-type (α κs)) (R′.the-laws (α κs)) d
 
-    abbrev setting : Val
-    setting = LL.val P.the-type P′.the-laws p
+    abbrev terms : Val
+    terms = LL.val P.the-type P′.the-laws p
 
     abbrev passed : Args read.signature κs
     passed = (d, (p, (t, (x, tt))))
 
     abbrev vals : Vals read.signature κs
-    vals = (reader ∷ [], (setting ∷ [], (bytes t ∷ [], (bytes x ∷ [], tt))))
+    vals = (reader ∷ [], (terms ∷ [], (bytes t ∷ [], (bytes x ∷ [], tt))))
 
     abbrev Own : Fml
     Own = owns (R.the-row (α κs) ∷ P.the-row ∷ Bytes (named 1) (κs .1 .0) ∷ Buffer (named 2) (κs .1 .1 .0) ∷ []) passed vals
@@ -105,18 +103,18 @@ module _ {M : Type 1} (𝓤 : URA M) (H : Heap 𝓤) (A : Atoms 𝓤) (W : Given
         qs,
         tt,
         (d .image, (d .sections, (d .verdict, (p, (t, (x, tt)))))),
-        (bytes (d .image) ∷ [], (sections ∷ [], (verdict ∷ [], (setting ∷ [], (bytes t ∷ [], (bytes x ∷ [], tt)))))),
+        (bytes (d .image) ∷ [], (sections ∷ [], (verdict ∷ [], (terms ∷ [], (bytes t ∷ [], (bytes x ∷ [], tt)))))),
       ),
       tt,
     )
 
-    walk : Is (R.the-row (α κs)) d (reader ∷ []) → Is P.the-row p (setting ∷ []) → Is (Bytes (named 1) (κs .1 .0)) t (bytes t ∷ [])
+    walk : Is (R.the-row (α κs)) d (reader ∷ []) → Is P.the-row p (terms ∷ []) → Is (Bytes (named 1) (κs .1 .0)) t (bytes t ∷ [])
         → Is (Buffer (named 2) (κs .1 .1 .0)) x (bytes x ∷ []) → Reads (d .image) d × (entrySigns * mostText ≤ length (now x))
         → ent 𝓤 (onEntry 𝓤 H A read.signature κs qs passed vals)
-        (WpFn 𝓤 H C Λ code.function (reader ∷ setting ∷ bytes t ∷ bytes x ∷ []) (Met 𝓤 H A read.ended (read.clauses 𝓤 H A mem run) .post at))
+        (WpFn 𝓤 H C Λ code.function (reader ∷ terms ∷ bytes t ∷ bytes x ∷ []) (Met 𝓤 H A read.ended (read.clauses 𝓤 H A mem run) .post at))
     walk is-d is-p is-t is-x pre =
         let held = LL.owed (R.the-type (α κs)) (R′.the-laws (α κs)) d _ is-d in
-        qed W (raw (alive 𝓤 H A read.signature κs qs) ∷ ‵ Own ∷ []) ∵ enter ! C Λ code.function (reader ∷ setting ∷ bytes t ∷ bytes x ∷ []) _ $
+        qed W (raw (alive 𝓤 H A read.signature κs qs) ∷ ‵ Own ∷ []) ∵ enter ! C Λ code.function (reader ∷ terms ∷ bytes t ∷ bytes x ∷ []) _ $
         alloc1 ! (λ l₀. alloc1 ! (λ l₁. alloc1 ! (λ l₂. alloc1 ! (λ l₃. alloc1 ! (λ l₄.
         alloc1 ! (λ l₅. alloc1 ! (λ l₆. alloc1 ! (λ l₇. alloc1 ! (λ l₈. alloc1 ! (λ l₉. alloc0 ! $ params1 ! $
         pass1 ! (init ! 16 refl (reader-typed 𝓤 H A W (α κs) d is-d)) $ pass1 ! (init ! 14 refl (LL.lawful P.the-type P′.the-laws 𝓤 H A W .typed p _ is-p .0)) $
@@ -141,7 +139,7 @@ module _ {M : Type 1} (𝓤 : URA M) (H : Heap 𝓤) (A : Atoms 𝓤) (W : Given
         move ! (0 ∷ 4 ∷ []) $ fjoin ! $ move ! (2 ∷ 0 ∷ []) $ fjoin ! $ move ! (2 ∷ 0 ∷ []) $ fjoin ! $ move ! (22 ∷ 0 ∷ []) $
         -- [the tokens; what is asked; true; _9; …]
         calls ! fm judged.ended (judged.clauses 𝓤 H A mem run) met to-judged (factI 𝓤 _ (emp 𝓤) (pre .0 .located, pre .0 .checked, pre .1))
-        (λ r ws. Ends (translateFollowed p (now (d .image)) (now t) (now x)) r (ws .1 .1 .1 .1 .1 .0)) (λ r ws. id⊢ 𝓤 _)
+        (λ r ws. Ends (handed (now x) (translateOn p (now (d .image)) (now t))) r (ws .1 .1 .1 .1 .1 .0)) (λ r ws. id⊢ 𝓤 _)
         (and-then ! (of-local ! 10 refl) (and-then ! (of-local ! 8 refl) (and-then ! (of-local ! 6 refl)
         (and-then ! (of-local ! 16 refl) (and-then ! (of-local ! 14 refl) (and-then ! (of-local ! 2 refl) (no-more !))))))) (λ u r ws done is-r.
         -- [the answer; the tokens; last values; true; _9; …]
