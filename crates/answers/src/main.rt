@@ -17,6 +17,7 @@
 ghost use Prim.Native.Nat.{_≤_};
 ghost use Rattle.io.specs.Counts.{Counts};
 use layout::Answer;
+use layout::Sheet;
 use libc::STDIN_FILENO;
 use libc::STDOUT_FILENO;
 
@@ -24,8 +25,7 @@ use libc::STDOUT_FILENO;
 struct Head {
     image: usize,
     text: usize,
-    width: usize,
-    page: usize,
+    sheet: Sheet,
     room: usize,
 }
 
@@ -53,8 +53,10 @@ fn read_head(head: &[u8; 28]) -> Head {
     Head {
         image: four(head, 0),
         text: four(head, 4),
-        width: eight(head, 8),
-        page: eight(head, 16),
+        sheet: Sheet {
+            width: eight(head, 8),
+            length: eight(head, 16),
+        },
         room: four(head, 24),
     }
 }
@@ -110,19 +112,19 @@ fn read_front(bytes: &mut [u8], n: usize) -> usize
 }
 
 // Answers one case into a buffer.
-fn answer_into(image: &[u8], text: &[u8], width: usize, page: usize, out: &mut [u8]) -> bool {
+fn answer_into(image: &[u8], text: &[u8], sheet: Sheet, out: &mut [u8]) -> bool {
     prepare(out);
-    let answer = layout::emboss(image, text, width, page, out);
+    let answer = layout::emboss(image, text, sheet, out);
     write_answer(answer) & io::write_all(STDOUT_FILENO, out)
 }
 
 // Answers one case with so much room.
-fn answer(image: &[u8], text: &[u8], width: usize, page: usize, room: usize) -> bool {
+fn answer(image: &[u8], text: &[u8], sheet: Sheet, room: usize) -> bool {
     let mut out = [0u8; 163840];
     if out.len() < room {
         return false;
     }
-    answer_into(image, text, width, page, &mut out[..room])
+    answer_into(image, text, sheet, &mut out[..room])
 }
 
 // Answers the case with this head, whose image and text follow.
@@ -134,13 +136,7 @@ fn answer_with(head: Head) -> bool {
     if (held != head.image) | (length != head.text) {
         return false;
     }
-    answer(
-        &image[..held],
-        &text[..length],
-        head.width,
-        head.page,
-        head.room,
-    )
+    answer(&image[..held], &text[..length], head.sheet, head.room)
 }
 
 // Answers the next case, and says whether there was one.

@@ -1,11 +1,19 @@
 // The paper's run cases: what the whole call answers at its limits, for each refusal 1 to 8 with its place, and where two refusals hold at once.
 // Each case prints its answer in the form of `brailleout`. Some go on with the cells and pages; the others say whether the bytes lent are as they were.
+use layout::Sheet;
 use libc::STDOUT_FILENO;
 
+fn sheet(width: usize, length: usize) -> Sheet {
+    Sheet {
+        width: width,
+        length: length,
+    }
+}
+
 // The answer, the cells and the pages.
-fn show(image: &[u8], text: &[u8], width: usize, page: usize) {
+fn show(image: &[u8], text: &[u8], sheet: Sheet) {
     let mut out = [170u8; 65536];
-    let answer = layout::emboss(image, text, width, page, &mut out);
+    let answer = layout::emboss(image, text, sheet, &mut out);
     console::print_answer(answer);
     console::print_pages(&out[..answer.written()]);
 }
@@ -23,8 +31,8 @@ fn as_lent(bytes: &[u8]) -> bool {
 }
 
 // The answer, and whether the output is as lent.
-fn tell(image: &[u8], text: &[u8], width: usize, page: usize, out: &mut [u8]) {
-    let answer = layout::emboss(image, text, width, page, out);
+fn tell(image: &[u8], text: &[u8], sheet: Sheet, out: &mut [u8]) {
+    let answer = layout::emboss(image, text, sheet, out);
     console::print_answer(answer);
     if as_lent(out) {
         io::write_all(STDOUT_FILENO, &[b'k', b'e', b'p', b't', b'\n']);
@@ -37,54 +45,58 @@ fn tell(image: &[u8], text: &[u8], width: usize, page: usize, out: &mut [u8]) {
 }
 
 // As `tell`, with 65,536 bytes lent.
-fn answered(image: &[u8], text: &[u8], width: usize, page: usize) {
+fn answered(image: &[u8], text: &[u8], sheet: Sheet) {
     let mut out = [170u8; 65536];
-    tell(image, text, width, page, &mut out);
+    tell(image, text, sheet, &mut out);
 }
 
 // Words and paragraphs: nine A (lines of 8 and 1); `$P` with seven A (column 0); seven A and one more (a word joined would be too long); the empty text.
 fn words(image: &[u8]) {
-    show(image, &[65; 9], 8, 2);
-    show(image, &[b'$', b'P', 65, 65, 65, 65, 65, 65, 65], 8, 2);
-    show(image, &[65, 65, 65, 65, 65, 65, 65, b' ', 65], 8, 2);
-    show(image, &[], 8, 2);
+    show(image, &[65; 9], sheet(8, 2));
+    show(
+        image,
+        &[b'$', b'P', 65, 65, 65, 65, 65, 65, 65],
+        sheet(8, 2),
+    );
+    show(image, &[65, 65, 65, 65, 65, 65, 65, b' ', 65], sheet(8, 2));
+    show(image, &[], sheet(8, 2));
 }
 
 // W 7, 8, 60, 61, and P 1, 2, 40, 41.
 fn sizes(image: &[u8]) {
     let come = [b'C', b'O', b'M', b'E'];
-    answered(image, &come, 7, 2);
-    answered(image, &come, 8, 2);
-    answered(image, &come, 60, 2);
-    answered(image, &come, 61, 2);
-    answered(image, &come, 8, 1);
-    answered(image, &come, 8, 40);
-    answered(image, &come, 8, 41);
+    answered(image, &come, sheet(7, 2));
+    answered(image, &come, sheet(8, 2));
+    answered(image, &come, sheet(60, 2));
+    answered(image, &come, sheet(61, 2));
+    answered(image, &come, sheet(8, 1));
+    answered(image, &come, sheet(8, 40));
+    answered(image, &come, sheet(8, 41));
 }
 
 // Texts of 16,384 and 16,385 bytes.
 fn long_texts(image: &[u8]) {
-    answered(image, &[65; 16384], 8, 2);
-    answered(image, &[65; 16385], 8, 2);
+    answered(image, &[65; 16384], sheet(8, 2));
+    answered(image, &[65; 16385], sheet(8, 2));
 }
 
 // Refusals 7 and 8: `A|a` at 2; COME with 3 bytes of output and with none, place 4; with 4, done.
 fn text_and_room(image: &[u8]) {
     let come = [b'C', b'O', b'M', b'E'];
-    answered(image, &[b'A', b'|', b'a'], 8, 2);
-    tell(image, &come, 8, 2, &mut [170; 3]);
-    tell(image, &come, 8, 2, &mut [170; 0]);
-    tell(image, &come, 8, 2, &mut [170; 4]);
+    answered(image, &[b'A', b'|', b'a'], sheet(8, 2));
+    tell(image, &come, sheet(8, 2), &mut [170; 3]);
+    tell(image, &come, sheet(8, 2), &mut [170; 0]);
+    tell(image, &come, sheet(8, 2), &mut [170; 4]);
 }
 
 // A table of 13 bytes, and where two refusals hold at once: a damaged table with a bad width; a bad width with an overlong text; an unknown character with
 // too little room; an overlong text with an unknown character.
 fn orders(image: &[u8]) {
-    answered(&[0; 13], &[65], 8, 2);
-    answered(&[0; 13], &[65], 7, 2);
-    answered(image, &[65; 16385], 7, 2);
-    tell(image, &[b'a'], 8, 2, &mut [170; 0]);
-    answered(image, &[b'a'; 16385], 8, 2);
+    answered(&[0; 13], &[65], sheet(8, 2));
+    answered(&[0; 13], &[65], sheet(7, 2));
+    answered(image, &[65; 16385], sheet(7, 2));
+    tell(image, &[b'a'], sheet(8, 2), &mut [170; 0]);
+    answered(image, &[b'a'; 16385], sheet(8, 2));
 }
 
 fn all(image: &[u8]) {
@@ -101,11 +113,11 @@ fn main() {
     let held = console::read_table(&mut image);
     all(&image[..held]);
     image[31] = 6;
-    answered(&image[..held], &[65], 8, 2);
+    answered(&image[..held], &[65], sheet(8, 2));
     image[31] = 1;
     image[0] = 33;
-    answered(&image[..held], &[65], 8, 2);
+    answered(&image[..held], &[65], sheet(8, 2));
     image[0] = 32;
     image[130] = 67;
-    answered(&image[..held], &[65], 8, 2);
+    answered(&image[..held], &[65], sheet(8, 2));
 }

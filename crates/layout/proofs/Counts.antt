@@ -20,6 +20,7 @@ use Rattle.layout.specs.Fitting.{WordFits, Fitting}
 use Rattle.layout.specs.Right.{IsCell}
 use Rattle.layout.specs.declared.Place.{Place}
 use Rattle.layout.proofs.Kept.{Kept, volume-keeps}
+use Rattle.layout.specs.declared.Sheet.{Sheet}
 
 -- ---- Cells: the blanks and the word that a move writes
 
@@ -54,8 +55,8 @@ pub record Counted (p : Place) (bytes : List ℕ) (q : Place) : Type 0 where
   pub lines : q .lines ≡ p .lines + count lineMark bytes
   pub pages : q .pages ≡ p .pages + count pageMark bytes
 
-module _ (W P : ℕ) (p : Place) where
-  counted : Kept W P (λ bytes words spots q. Counted p bytes q)
+module _ (sheet : Sheet) (p : Place) where
+  counted : Kept sheet (λ bytes words spots q. Counted p bytes q)
   unfolding count afterCells afterPage
   counted =
       record {
@@ -83,16 +84,16 @@ module _ (W P : ℕ) (p : Place) where
 
 -- ---- The whole volume
 
-module _ (W P : ℕ) (items : List Item) (fits : Fitting W items) (room : 0 < P) where
-  counted-volume : Counted start (volume W P items) (volumeEnd W P items)
+module _ (sheet : Sheet) (items : List Item) (fits : Fitting (sheet .width) items) (room : 0 < sheet .length) where
+  counted-volume : Counted start (volume sheet items) (volumeEnd sheet items)
   unfolding count
-  counted-volume = volume-keeps W P _ (counted W P start) items fits room (record { written = refl; lines = refl; pages = refl })
+  counted-volume = volume-keeps sheet _ (counted sheet start) items fits room (record { written = refl; lines = refl; pages = refl })
 
-  pub written-is-length : volumeEnd W P items .written ≡ length (volume W P items)
+  pub written-is-length : volumeEnd sheet items .written ≡ length (volume sheet items)
   written-is-length = let c = counted-volume in omega arith
 
-  pub lines-are-64s : volumeEnd W P items .lines ≡ count lineMark (volume W P items)
+  pub lines-are-64s : volumeEnd sheet items .lines ≡ count lineMark (volume sheet items)
   lines-are-64s = let c = counted-volume in omega arith
 
-  pub pages-are-65s : volumeEnd W P items .pages ≡ count pageMark (volume W P items)
+  pub pages-are-65s : volumeEnd sheet items .pages ≡ count pageMark (volume sheet items)
   pages-are-65s = let c = counted-volume in omega arith

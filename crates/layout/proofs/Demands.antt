@@ -33,18 +33,19 @@ use Rattle.layout.proofs.Permitted as Permitted-laws
 use Rattle.layout.proofs.NoLater as NoLater-laws
 use Rattle.layout.proofs.Counts.{lines-are-64s, pages-are-65s}
 use Rattle.layout.proofs.Words.{items-fit}
-use Rattle.layout.proofs.Sheet as Sheet-laws
+use Rattle.layout.proofs.Volume as Volume-laws
 use Rattle.layout.proofs.Signs.{volume-has-the-signs}
 use Rattle.layout.proofs.Drawn.{spots-are-the-bytes, choices-are-the-bytes}
+use Rattle.layout.specs.declared.Sheet.{Sheet}
 
-module _ (setting : Setting) (image text : List ℕ) (W P : ℕ) (width : Between leastWidth mostWidth W) (page : Between leastPage mostPage P)
+module _ (setting : Setting) (image text : List ℕ) (sheet : Sheet) (width : Between leastWidth mostWidth (sheet .width)) (page : Between leastPage mostPage (sheet .length))
     (accepted : verdictOf image ≡ Accepted) where
   -- the signs of the text, and its words and format signs
   abbrev signs : List ℕ
   signs = signsOf (piecesOf (tableOf image) setting text)
 
   abbrev items : List Item
-  items = itemsOf W signs
+  items = itemsOf (sheet .width) signs
 
   -- ---- Demand 2
 
@@ -54,69 +55,69 @@ module _ (setting : Setting) (image text : List ℕ) (W P : ℕ) (width : Betwee
   text-consumed = consumed (tableOf image) setting (accepted-sound image accepted) (collapsed text)
 
   -- the words have a cell and at most W, and their cells are 1 to 63
-  text-fits : Fitting W items
+  text-fits : Fitting (sheet .width) items
   unfolding piecesOf
   text-fits = items-fit (let w = width .low in omega arith) signs (signs-printed (tableOf image) (accepted-sound image accepted) setting (collapsed text))
 
-  page-room : 0 < P
+  page-room : 0 < sheet .length
   page-room = let p = page .low in omega arith
 
   -- no line has more than W cells or ends in a blank, its cells are at most 63; no page has more than P lines, or none
-  pub text-pages-right : All (PageRight W P) (pagesOf (bytesOf (tableOf image) setting text W P))
+  pub text-pages-right : All (PageRight sheet) (pagesOf (bytesOf (tableOf image) setting text sheet))
   unfolding bytesOfSigns
-  text-pages-right = Sheet-laws.pages-right W P items text-fits page-room
+  text-pages-right = Volume-laws.pages-right sheet items text-fits page-room
 
   -- the pages, as lists of lines, have the output's bytes
-  pub text-pages-bytes : bytesOfPages (pagesOf (bytesOf (tableOf image) setting text W P)) ≡ bytesOf (tableOf image) setting text W P
+  pub text-pages-bytes : bytesOfPages (pagesOf (bytesOf (tableOf image) setting text sheet)) ≡ bytesOf (tableOf image) setting text sheet
   unfolding bytesOfSigns
-  text-pages-bytes = Sheet-laws.pages-have-the-bytes W P items text-fits page-room
+  text-pages-bytes = Volume-laws.pages-have-the-bytes sheet items text-fits page-room
 
   -- the answer's lines and pages are those of the pages
   pub text-lines-counted :
-      length (flatten (pagesOf (bytesOf (tableOf image) setting text W P))) ≡ count lineMark (bytesOf (tableOf image) setting text W P)
+      length (flatten (pagesOf (bytesOf (tableOf image) setting text sheet))) ≡ count lineMark (bytesOf (tableOf image) setting text sheet)
   unfolding bytesOfSigns
-  text-lines-counted = Sheet-laws.lines-counted W P items text-fits page-room
+  text-lines-counted = Volume-laws.lines-counted sheet items text-fits page-room
 
-  pub text-pages-counted : length (pagesOf (bytesOf (tableOf image) setting text W P)) ≡ count pageMark (bytesOf (tableOf image) setting text W P)
+  pub text-pages-counted : length (pagesOf (bytesOf (tableOf image) setting text sheet)) ≡ count pageMark (bytesOf (tableOf image) setting text sheet)
   unfolding bytesOfSigns
-  text-pages-counted = Sheet-laws.pages-counted W P items text-fits page-room
+  text-pages-counted = Volume-laws.pages-counted sheet items text-fits page-room
 
   -- the cells of the pages that aren't blank are, in order, the signs 1 to 63
-  pub text-has-the-signs : only isDotted (flatten (flatten (pagesOf (bytesOf (tableOf image) setting text W P)))) ≡ only isDotted signs
+  pub text-has-the-signs : only isDotted (flatten (flatten (pagesOf (bytesOf (tableOf image) setting text sheet)))) ≡ only isDotted signs
   unfolding bytesOfSigns piecesOf
   text-has-the-signs =
-      volume-has-the-signs W P signs (signs-printed (tableOf image) (accepted-sound image accepted) setting (collapsed text)) (let w = width .low in omega arith) page-room
+      volume-has-the-signs sheet signs (signs-printed (tableOf image) (accepted-sound image accepted) setting (collapsed text)) (let w = width .low in omega arith) page-room
 
   -- ---- Demand 3
 
-  pub text-permitted : Permitted W P items (layoutOf W P items)
-  text-permitted = Permitted-laws.ours-permitted W P page-room items
+  pub text-permitted : Permitted sheet items (layoutOf sheet items)
+  text-permitted = Permitted-laws.ours-permitted sheet page-room items
 
   -- each word of ours ends on no later line, and on the same line in no later column; ours has no more lines and no more pages
-  pub text-no-later : (layout : Layout) → Permitted W P items layout → NoLater (layoutOf W P items) layout
-  text-no-later = NoLater-laws.no-later W P page-room items
+  pub text-no-later : (layout : Layout) → Permitted sheet items layout → NoLater (layoutOf sheet items) layout
+  text-no-later = NoLater-laws.no-later sheet page-room items
 
   -- the spots of our layout are those of the output
-  pub text-spots : Drawn (volumeLines (bytesOf (tableOf image) setting text W P)) (wordsIn items) (layoutOf W P items .spots)
+  pub text-spots : Drawn (volumeLines (bytesOf (tableOf image) setting text sheet)) (wordsIn items) (layoutOf sheet items .spots)
   unfolding bytesOfSigns layoutOf
-  text-spots = spots-are-the-bytes W P items text-fits page-room
+  text-spots = spots-are-the-bytes sheet items text-fits page-room
 
   -- and its lines and pages are the output's
-  pub text-layout-lines : layoutOf W P items .lines ≡ count lineMark (bytesOf (tableOf image) setting text W P)
+  pub text-layout-lines : layoutOf sheet items .lines ≡ count lineMark (bytesOf (tableOf image) setting text sheet)
   unfolding bytesOfSigns layoutOf
-  text-layout-lines = lines-are-64s W P items text-fits page-room
+  text-layout-lines = lines-are-64s sheet items text-fits page-room
 
-  pub text-layout-pages : layoutOf W P items .pages ≡ count pageMark (bytesOf (tableOf image) setting text W P)
+  pub text-layout-pages : layoutOf sheet items .pages ≡ count pageMark (bytesOf (tableOf image) setting text sheet)
   unfolding bytesOfSigns layoutOf
-  text-layout-pages = pages-are-65s W P items text-fits page-room
+  text-layout-pages = pages-are-65s sheet items text-fits page-room
 
   -- every permitted layout arises from choices, and its spots are those of the bytes of the same words with the line ended before each chosen one
-  pub permitted-drawn : (layout : Layout) → Permitted W P items layout
-      → (choices : List Bool) × Drawn (volumeLines (volume W P (withChoices choices items))) (wordsIn items) (layout .spots)
+  pub permitted-drawn : (layout : Layout) → Permitted sheet items layout
+      → (choices : List Bool) × Drawn (volumeLines (volume sheet (withChoices choices items))) (wordsIn items) (layout .spots)
   unfolding layoutOf
   permitted-drawn layout d =
-      let c = Permitted-laws.permitted-by-choices W P page-room items layout d in (
+      let c = Permitted-laws.permitted-by-choices sheet page-room items layout d in (
         c .choices,
-        subst (λ (l : Layout). Drawn (volumeLines (volume W P (withChoices (c .choices) items))) (wordsIn items) (l .spots)) (c .same)
-            (choices-are-the-bytes W P items text-fits page-room (c .choices)),
+        subst (λ (l : Layout). Drawn (volumeLines (volume sheet (withChoices (c .choices) items))) (wordsIn items) (l .spots)) (c .same)
+            (choices-are-the-bytes sheet items text-fits page-room (c .choices)),
       )

@@ -21,9 +21,10 @@ use Rattle.layout.specs.declared.Place.{Place}
 use Rattle.layout.proofs.Lists.{flatten-append}
 use Rattle.layout.proofs.Kept.{Kept, volume-keeps}
 use Rattle.layout.proofs.Counts.{cells-after}
-use Rattle.layout.proofs.Sheet.{Sheet, unmarked, fed, turned, read, reads, reads-append, reads-cells}
-use Rattle.layout.proofs.Sheet.{nil-of-length, Standing, standing-kept, unmarked-standing, volume-sheet}
+use Rattle.layout.proofs.Volume.{Stack, unmarked, fed, turned, read, reads, reads-append, reads-cells}
+use Rattle.layout.proofs.Volume.{nil-of-length, Standing, standing-kept, unmarked-standing, volume-sheet}
 use Rattle.layout.proofs.Words.{choices-keep-words, fitting-with-choices}
+use Rattle.layout.specs.declared.Sheet.{Sheet}
 
 -- ---- Lines by number
 
@@ -192,47 +193,47 @@ module _ (lines : List Line) (line : Line) (words : List (List ℕ)) (spots : Li
 -- ---- The whole volume
 
 -- the lines of a sheet: those of its pages, those of the page that is being filled, and the line
-abbrev sheetLines : Sheet → List Line
-sheetLines s = flatten (s .pages) ++ s .lines ++ s .line ∷ []
+abbrev stackLines : Stack → List Line
+stackLines s = flatten (s .pages) ++ s .lines ++ s .line ∷ []
 
-module _ (s : Sheet) (words : List (List ℕ)) (spots : List Spot) (d : Drawn (sheetLines s) words spots) where
-  fed-drawn : Drawn (sheetLines (fed s)) words spots
-  fed-drawn = rw (← (append-assoc (flatten (s .pages)) (s .lines) (s .line ∷ []))) (same-lines (empty-at-end (sheetLines s)) d)
+module _ (s : Stack) (words : List (List ℕ)) (spots : List Spot) (d : Drawn (stackLines s) words spots) where
+  fed-drawn : Drawn (stackLines (fed s)) words spots
+  fed-drawn = rw (← (append-assoc (flatten (s .pages)) (s .lines) (s .line ∷ []))) (same-lines (empty-at-end (stackLines s)) d)
 
-  turned-drawn : s .line ≡ [] → Drawn (sheetLines (turned s)) words spots
+  turned-drawn : s .line ≡ [] → Drawn (stackLines (turned s)) words spots
   unfolding flatten
   turned-drawn nothing = rw (flatten-append (s .pages) (s .lines ∷ [])) (simp append-nil (rw nothing at d))
 
-record Placed (W P : ℕ) (bytes : List ℕ) (words : List (List ℕ)) (spots : List Spot) (p : Place) : Type 0 where
-  standing : Standing W P bytes (reads unmarked bytes) p
-  drawn : Drawn (sheetLines (reads unmarked bytes)) words spots
+record Placed (sheet : Sheet) (bytes : List ℕ) (words : List (List ℕ)) (spots : List Spot) (p : Place) : Type 0 where
+  standing : Standing sheet bytes (reads unmarked bytes) p
+  drawn : Drawn (stackLines (reads unmarked bytes)) words spots
 
-placed-kept : (W P : ℕ) → Kept W P (Placed W P)
+placed-kept : (sheet : Sheet) → Kept sheet (Placed sheet)
 unfolding reads read flatten afterPage afterCells
-placed-kept W P =
+placed-kept sheet =
     record {
       cells = λ bytes words spots p blanks w fits h r.
           let s = reads unmarked bytes in
           let st = r .standing in
           record {
-            standing = standing-kept W P .cells bytes words spots p blanks w fits h (r .standing);
+            standing = standing-kept sheet .cells bytes words spots p blanks w fits h (r .standing);
             drawn =
                 let on = drawn-on (flatten (s .pages) ++ s .lines) (s .line) words spots (r .drawn) blanks w in
                 rw (reads-append unmarked bytes, reads-cells s (cells-after blanks fits)) (on _ (rw length-append (omega arith)) (omega arith));
           };
       line = λ bytes words spots p h r.
           record {
-            standing = standing-kept W P .line bytes words spots p h (r .standing);
+            standing = standing-kept sheet .line bytes words spots p h (r .standing);
             drawn = rw (reads-append unmarked bytes) (fed-drawn (reads unmarked bytes) words spots (r .drawn));
           };
       page = λ bytes words spots p c l m r.
           let s = reads unmarked bytes in
           let st = r .standing in
           record {
-            standing = standing-kept W P .page bytes words spots p c l m (r .standing);
+            standing = standing-kept sheet .page bytes words spots p c l m (r .standing);
             drawn = rw (reads-append unmarked bytes) (turned-drawn s words spots (r .drawn) (nil-of-length (s .line) (omega arith)));
           };
-      opens = λ bytes words spots p r. record { standing = standing-kept W P .opens bytes words spots p (r .standing); drawn = r .drawn };
+      opens = λ bytes words spots p r. record { standing = standing-kept sheet .opens bytes words spots p (r .standing); drawn = r .drawn };
     }
 
 nothing-drawn : Drawn ([] ∷ []) [] []
@@ -243,15 +244,15 @@ nothing-drawn = record { as-many = refl; words-stand = λ i h. absurd (omega ari
     none (suc l) x h = refl
 
 -- our layout's spots are those of the bytes: in the lines of the volume the i-th word stands where the i-th spot says, and every other cell is blank
-pub spots-are-the-bytes : (W P : ℕ) (items : List Item) → Fitting W items → 0 < P
-    → Drawn (volumeLines (volume W P items)) (wordsIn items) (spotsFrom W P start items)
+pub spots-are-the-bytes : (sheet : Sheet) (items : List Item) → Fitting (sheet .width) items → 0 < sheet .length
+    → Drawn (volumeLines (volume sheet items)) (wordsIn items) (spotsFrom sheet start items)
 unfolding reads flatten
-spots-are-the-bytes W P items fits room =
-    let placed = volume-keeps W P _ (placed-kept W P) items fits room (record { standing = unmarked-standing W P; drawn = nothing-drawn }) in
-    same-lines (λ l. sym (empty-at-end (volumeLines (volume W P items)) l)) (rw (volume-sheet W P items fits room, append-nil) at (placed .drawn))
+spots-are-the-bytes sheet items fits room =
+    let placed = volume-keeps sheet _ (placed-kept sheet) items fits room (record { standing = unmarked-standing sheet; drawn = nothing-drawn }) in
+    same-lines (λ l. sym (empty-at-end (volumeLines (volume sheet items)) l)) (rw (volume-sheet sheet items fits room, append-nil) at (placed .drawn))
 
 -- so are those of every layout by choices, of the same words
-pub choices-are-the-bytes : (W P : ℕ) (items : List Item) → Fitting W items → 0 < P → (choices : List Bool)
-    → let chosen = withChoices choices items in Drawn (volumeLines (volume W P chosen)) (wordsIn items) (spotsFrom W P start chosen)
-choices-are-the-bytes W P items fits room choices =
-    rw (choices-keep-words choices items) at (spots-are-the-bytes W P (withChoices choices items) (fitting-with-choices choices items fits) room)
+pub choices-are-the-bytes : (sheet : Sheet) (items : List Item) → Fitting (sheet .width) items → 0 < sheet .length → (choices : List Bool)
+    → let chosen = withChoices choices items in Drawn (volumeLines (volume sheet chosen)) (wordsIn items) (spotsFrom sheet start chosen)
+choices-are-the-bytes sheet items fits room choices =
+    rw (choices-keep-words choices items) at (spots-are-the-bytes sheet (withChoices choices items) (fitting-with-choices choices items fits) room)

@@ -20,6 +20,7 @@ use Rattle.layout.specs.Place.{afterWord, wordBytes, afterItem, itemByte
 use Rattle.layout.specs.Gather.{Modest, afterFlush, flushBytes, afterFormat, formatBytes, stepped, waiting, stepBytes, afterRest, restBytes}
 use Rattle.layout.specs.declared.Place.{Place}
 use Rattle.layout.proofs.Moves.{modest-more, modest-word, modest-line-end, modest-empty-line, modest-paragraph, modest-page-end}
+use Rattle.layout.specs.declared.Sheet.{Sheet}
 
 -- a format sign is no word
 format-no-word : (g : ℕ) (cells : List ℕ) → formatOf g ≡ some (word cells) → ⊥
@@ -113,59 +114,59 @@ module _ (W : ℕ) (wide : 1 ≤ W) where
       go false none x y later = rw (x, gathered, y, append-assoc cells more (g ∷ [])) later
       go false (some format) x y later = rw (x, gathered, y) (parted (format ∷ gathered [] signs))
 
-module _ (W P : ℕ) (wide : 1 ≤ W) where
+module _ (sheet : Sheet) (wide : 1 ≤ sheet .width) where
   -- ---- What the items do, list after list
 
-  after-append : (p : Place) (xs ys : List Item) → afterItems W P p (xs ++ ys) ≡ afterItems W P (afterItems W P p xs) ys
+  after-append : (p : Place) (xs ys : List Item) → afterItems sheet p (xs ++ ys) ≡ afterItems sheet (afterItems sheet p xs) ys
   unfolding afterItems
   after-append p [] ys = refl
-  after-append p (x ∷ xs) ys = after-append (afterItem W P p x) xs ys
+  after-append p (x ∷ xs) ys = after-append (afterItem sheet p x) xs ys
 
-  bytes-append : (p : Place) (xs ys : List Item) → itemsBytes W P p (xs ++ ys) ≡ itemsBytes W P p xs ++ itemsBytes W P (afterItems W P p xs) ys
+  bytes-append : (p : Place) (xs ys : List Item) → itemsBytes sheet p (xs ++ ys) ≡ itemsBytes sheet p xs ++ itemsBytes sheet (afterItems sheet p xs) ys
   unfolding itemsBytes afterItems
   bytes-append p [] ys = refl
   bytes-append p (x ∷ xs) ys =
-      ap (λ (r : List ℕ). itemBytes W P p x ++ r) (bytes-append (afterItem W P p x) xs ys)
-      ∙ sym (append-assoc (itemBytes W P p x) (itemsBytes W P (afterItem W P p x) xs) (itemsBytes W P (afterItems W P (afterItem W P p x) xs) ys))
+      ap (λ (r : List ℕ). itemBytes sheet p x ++ r) (bytes-append (afterItem sheet p x) xs ys)
+      ∙ sym (append-assoc (itemBytes sheet p x) (itemsBytes sheet (afterItem sheet p x) xs) (itemsBytes sheet (afterItems sheet (afterItem sheet p x) xs) ys))
 
-  after-closed : (p : Place) (cells : List ℕ) → afterItems W P p (closed cells) ≡ afterFlush W P p (length cells)
+  after-closed : (p : Place) (cells : List ℕ) → afterItems sheet p (closed cells) ≡ afterFlush sheet p (length cells)
   unfolding afterItems afterItem closed afterFlush
   after-closed p [] = refl
   after-closed p (c ∷ cells) = rw (lt-ltb 0 (length (c ∷ cells)) (omega arith))
 
-  bytes-closed : (p : Place) (cells : List ℕ) → itemsBytes W P p (closed cells) ≡ flushBytes W P p cells
+  bytes-closed : (p : Place) (cells : List ℕ) → itemsBytes sheet p (closed cells) ≡ flushBytes sheet p cells
   unfolding itemsBytes itemBytes closed flushBytes
   bytes-closed p [] = refl
-  bytes-closed p (c ∷ cells) = rw (lt-ltb 0 (length (c ∷ cells)) (omega arith)) (append-nil (wordBytes W P p (c ∷ cells)))
+  bytes-closed p (c ∷ cells) = rw (lt-ltb 0 (length (c ∷ cells)) (omega arith)) (append-nil (wordBytes sheet p (c ∷ cells)))
 
   -- ---- What is left to do, from a place on
 
   -- both at once: the place at the end, and the bytes
   record Runs (p : Place) (items : List Item) (done : List ℕ) (q : Place) (items′ : List Item) : Type 0 where
-    place : afterItems W P p items ≡ afterItems W P q items′
-    written : itemsBytes W P p items ≡ done ++ itemsBytes W P q items′
+    place : afterItems sheet p items ≡ afterItems sheet q items′
+    written : itemsBytes sheet p items ≡ done ++ itemsBytes sheet q items′
 
   -- some items first
-  runs-append : (p : Place) (xs ys : List Item) → Runs p (xs ++ ys) (itemsBytes W P p xs) (afterItems W P p xs) ys
+  runs-append : (p : Place) (xs ys : List Item) → Runs p (xs ++ ys) (itemsBytes sheet p xs) (afterItems sheet p xs) ys
   runs-append p xs ys = record { place = after-append p xs ys; written = bytes-append p xs ys }
 
   -- the cells that wait are placed first
-  runs-closed : (p : Place) (cells : List ℕ) (items : List Item) → length cells ≤ W
-      → Runs p (ended (cut W (closed cells ++ items))) (flushBytes W P p cells) (afterFlush W P p (length cells)) (ended (cut W items))
+  runs-closed : (p : Place) (cells : List ℕ) (items : List Item) → length cells ≤ sheet .width
+      → Runs p (ended (cut (sheet .width) (closed cells ++ items))) (flushBytes sheet p cells) (afterFlush sheet p (length cells)) (ended (cut (sheet .width) items))
   unfolding ended
   runs-closed p cells items h =
-      let e : cut W (closed cells ++ items) ++ pageEnd ∷ [] ≡ closed cells ++ (cut W items ++ pageEnd ∷ []) =
+      let e : cut (sheet .width) (closed cells ++ items) ++ pageEnd ∷ [] ≡ closed cells ++ (cut (sheet .width) items ++ pageEnd ∷ []) =
       ap (λ (r : List Item). r ++ pageEnd ∷ [])
-      (cut-append W wide (closed cells) items ∙ ap (λ (r : List Item). r ++ cut W items) (cut-closed W wide cells h))
-      ∙ append-assoc (closed cells) (cut W items) (pageEnd ∷ []) in
-      let r = runs-append p (closed cells) (cut W items ++ pageEnd ∷ []) in
+      (cut-append (sheet .width) wide (closed cells) items ∙ ap (λ (r : List Item). r ++ cut (sheet .width) items) (cut-closed (sheet .width) wide cells h))
+      ∙ append-assoc (closed cells) (cut (sheet .width) items) (pageEnd ∷ []) in
+      let r = runs-append p (closed cells) (cut (sheet .width) items ++ pageEnd ∷ []) in
       record {
-        place = rw e (r .place ∙ ap (λ (q : Place). afterItems W P q (cut W items ++ pageEnd ∷ [])) (after-closed p cells));
+        place = rw e (r .place ∙ ap (λ (q : Place). afterItems sheet q (cut (sheet .width) items ++ pageEnd ∷ [])) (after-closed p cells));
         written = rw e (r .written ∙ rw (bytes-closed p cells, after-closed p cells));
       }
 
   -- a format sign isn't cut
-  format-whole : (g : ℕ) (f : Item) → formatOf g ≡ some f → cutItem W f ≡ f ∷ []
+  format-whole : (g : ℕ) (f : Item) → formatOf g ≡ some f → cutItem (sheet .width) f ≡ f ∷ []
   unfolding cutItem
   format-whole g lineEnd e = refl
   format-whole g emptyLine e = refl
@@ -174,140 +175,140 @@ module _ (W P : ℕ) (wide : 1 ≤ W) where
   format-whole g (word cells) e = absurd (format-no-word g cells e)
 
   -- W cells that wait are placed as a word
-  runs-full : (p : Place) (cells signs : List ℕ) (n : ℕ) → length cells ≡ n → n ≡ W
-      → Runs p (ended (cut W (gathered cells signs))) (wordBytes W P p cells) (afterWord W P p n) (ended (cut W (gathered [] signs)))
+  runs-full : (p : Place) (cells signs : List ℕ) (n : ℕ) → length cells ≡ n → n ≡ sheet .width
+      → Runs p (ended (cut (sheet .width) (gathered cells signs))) (wordBytes sheet p cells) (afterWord sheet p n) (ended (cut (sheet .width) (gathered [] signs)))
   unfolding ended afterItems afterItem itemsBytes itemBytes
   runs-full p cells signs n e f =
-      let c : cut W (gathered cells signs) ≡ word cells ∷ cut W (gathered [] signs) =
-      ap (λ (r : List ℕ). cut W (gathered r signs)) (sym (append-nil cells)) ∙ gathered-full W wide cells [] signs (e ∙ f) in
+      let c : cut (sheet .width) (gathered cells signs) ≡ word cells ∷ cut (sheet .width) (gathered [] signs) =
+      ap (λ (r : List ℕ). cut (sheet .width) (gathered r signs)) (sym (append-nil cells)) ∙ gathered-full (sheet .width) wide cells [] signs (e ∙ f) in
       rw (c, ← e) (record { place = refl; written = refl })
 
-  after-format : (p : Place) (g : ℕ) (f : Item) → formatOf g ≡ some f → afterFormat W P p g ≡ afterItem W P p f
+  after-format : (p : Place) (g : ℕ) (f : Item) → formatOf g ≡ some f → afterFormat sheet p g ≡ afterItem sheet p f
   unfolding afterFormat
   after-format p g f y = rw (y, afterFormat)
 
-  bytes-format : (p : Place) (g : ℕ) (f : Item) → formatOf g ≡ some f → formatBytes W P p g ≡ itemBytes W P p f
+  bytes-format : (p : Place) (g : ℕ) (f : Item) → formatOf g ≡ some f → formatBytes sheet p g ≡ itemBytes sheet p f
   unfolding formatBytes
   bytes-format p g f y = rw (y, formatBytes)
 
   -- a format sign after the cells that wait
-  runs-format : (p : Place) (cells : List ℕ) (g : ℕ) (f : Item) (signs : List ℕ) → length cells ≤ W → formatOf g ≡ some f
-      → Runs p (ended (cut W (closed cells ++ f ∷ gathered [] signs)))
-      (flushBytes W P p cells ++ formatBytes W P (afterFlush W P p (length cells)) g)
-      (afterFormat W P (afterFlush W P p (length cells)) g)
-      (ended (cut W (gathered [] signs)))
+  runs-format : (p : Place) (cells : List ℕ) (g : ℕ) (f : Item) (signs : List ℕ) → length cells ≤ sheet .width → formatOf g ≡ some f
+      → Runs p (ended (cut (sheet .width) (closed cells ++ f ∷ gathered [] signs)))
+      (flushBytes sheet p cells ++ formatBytes sheet (afterFlush sheet p (length cells)) g)
+      (afterFormat sheet (afterFlush sheet p (length cells)) g)
+      (ended (cut (sheet .width) (gathered [] signs)))
   unfolding ended cut afterItems itemsBytes
   runs-format p cells g f signs h y =
       let r = runs-closed p cells (f ∷ gathered [] signs) h in
-      let q : Place = afterFlush W P p (length cells) in
-      let c : cut W (f ∷ gathered [] signs) ≡ f ∷ cut W (gathered [] signs) =
-      ap (λ (r : List Item). r ++ cut W (gathered [] signs)) (format-whole g f y) in
+      let q : Place = afterFlush sheet p (length cells) in
+      let c : cut (sheet .width) (f ∷ gathered [] signs) ≡ f ∷ cut (sheet .width) (gathered [] signs) =
+      ap (λ (r : List Item). r ++ cut (sheet .width) (gathered [] signs)) (format-whole g f y) in
       record {
         place = r .place ∙ rw (c, after-format q g f y);
         written =
             r .written
             ∙ rw (c, after-format q g f y, bytes-format q g f y)
-            (sym (append-assoc (flushBytes W P p cells) (itemBytes W P q f) (itemsBytes W P (afterItem W P q f) (cut W (gathered [] signs) ++ pageEnd ∷ []))));
+            (sym (append-assoc (flushBytes sheet p cells) (itemBytes sheet q f) (itemsBytes sheet (afterItem sheet q f) (cut (sheet .width) (gathered [] signs) ++ pageEnd ∷ []))));
       }
 
   -- ---- One sign
 
   abbrev Step : Place → List ℕ → ℕ → List ℕ → Type 0
   Step p cells g signs =
-      Runs p (ended (cut W (gathered cells (g ∷ signs)))) (stepBytes W P p cells g) (stepped W P p (length cells) g .place)
-      (ended (cut W (gathered (waiting W cells g) signs)))
+      Runs p (ended (cut (sheet .width) (gathered cells (g ∷ signs)))) (stepBytes sheet p cells g) (stepped sheet p (length cells) g .place)
+      (ended (cut (sheet .width) (gathered (waiting sheet cells g) signs)))
 
-  runs-step : (p : Place) (cells : List ℕ) (g : ℕ) (signs : List ℕ) → length cells < W → Step p cells g signs
+  runs-step : (p : Place) (cells : List ℕ) (g : ℕ) (signs : List ℕ) → length cells < sheet .width → Step p cells g signs
   unfolding gathered stepped stepBytes waiting
-  runs-step p cells g signs h = go (eqb g blankCell) (formatOf g) (eqb (length cells + 1) W) refl refl refl
+  runs-step p cells g signs h = go (eqb g blankCell) (formatOf g) (eqb (length cells + 1) (sheet .width)) refl refl refl
     where
-      go : (b : Bool) (f : Option Item) (full : Bool) → eqb g blankCell ≡ b → formatOf g ≡ f → eqb (length cells + 1) W ≡ full → Step p cells g signs
+      go : (b : Bool) (f : Option Item) (full : Bool) → eqb g blankCell ≡ b → formatOf g ≡ f → eqb (length cells + 1) (sheet .width) ≡ full → Step p cells g signs
       go true f full x y z = rw (x, gathered) (runs-closed p cells (gathered [] signs) (omega arith))
       go false none true x y z =
-          rw (x, gathered, y, z) (runs-full p (cells ++ g ∷ []) signs (length cells + 1) (length-append cells (g ∷ [])) (eqb-true (length cells + 1) W z))
+          rw (x, gathered, y, z) (runs-full p (cells ++ g ∷ []) signs (length cells + 1) (length-append cells (g ∷ [])) (eqb-true (length cells + 1) (sheet .width) z))
       go false none false x y z = rw (x, gathered, y, z) (record { place = refl; written = refl })
       go false (some f) full x y z = rw (x, gathered, y) (runs-format p cells g f signs (omega arith) y)
 
   -- ---- For the loops
 
-  pub waiting-length : (p : Place) (cells : List ℕ) (g : ℕ) → length (waiting W cells g) ≡ stepped W P p (length cells) g .cells
+  pub waiting-length : (p : Place) (cells : List ℕ) (g : ℕ) → length (waiting sheet cells g) ≡ stepped sheet p (length cells) g .cells
   unfolding waiting stepped
-  waiting-length p cells g = go (eqb g blankCell) (isThere (formatOf g)) (eqb (length cells + 1) W) refl refl refl
+  waiting-length p cells g = go (eqb g blankCell) (isThere (formatOf g)) (eqb (length cells + 1) (sheet .width)) refl refl refl
     where
-      go : (b f full : Bool) → eqb g blankCell ≡ b → isThere (formatOf g) ≡ f → eqb (length cells + 1) W ≡ full
-          → length (waiting W cells g) ≡ stepped W P p (length cells) g .cells
+      go : (b f full : Bool) → eqb g blankCell ≡ b → isThere (formatOf g) ≡ f → eqb (length cells + 1) (sheet .width) ≡ full
+          → length (waiting sheet cells g) ≡ stepped sheet p (length cells) g .cells
       go true f full x y z = rw x
       go false true full x y z = rw (x, y)
       go false false true x y z = rw (x, y, z)
       go false false false x y z = rw (x, y, z) (length-append cells (g ∷ []))
 
-  pub waiting-below : (cells : List ℕ) (g : ℕ) → length cells < W → length (waiting W cells g) < W
+  pub waiting-below : (cells : List ℕ) (g : ℕ) → length cells < sheet .width → length (waiting sheet cells g) < sheet .width
   unfolding waiting
-  waiting-below cells g h = go (eqb g blankCell) (isThere (formatOf g)) (eqb (length cells + 1) W) refl refl refl
+  waiting-below cells g h = go (eqb g blankCell) (isThere (formatOf g)) (eqb (length cells + 1) (sheet .width)) refl refl refl
     where
-      go : (b f full : Bool) → eqb g blankCell ≡ b → isThere (formatOf g) ≡ f → eqb (length cells + 1) W ≡ full → length (waiting W cells g) < W
+      go : (b f full : Bool) → eqb g blankCell ≡ b → isThere (formatOf g) ≡ f → eqb (length cells + 1) (sheet .width) ≡ full → length (waiting sheet cells g) < sheet .width
       go true f full x y z = rw x wide
       go false true full x y z = rw (x, y) wide
       go false false true x y z = rw (x, y, z) wide
       go false false false x y z =
           let l = length-append cells (g ∷ []) in
-          let d = eqb-false (length cells + 1) W z in
-          let n : (length cells + 1 ≡ W → ⊥) = d in
+          let d = eqb-false (length cells + 1) (sheet .width) z in
+          let n : (length cells + 1 ≡ sheet .width → ⊥) = d in
           rw (x, y, z) (omega arith)
 
-  pub step-after : (p : Place) (cells : List ℕ) (g : ℕ) (signs : List ℕ) → length cells < W
-      → afterRest W P p cells (g ∷ signs) ≡ afterRest W P (stepped W P p (length cells) g .place) (waiting W cells g) signs
+  pub step-after : (p : Place) (cells : List ℕ) (g : ℕ) (signs : List ℕ) → length cells < sheet .width
+      → afterRest sheet p cells (g ∷ signs) ≡ afterRest sheet (stepped sheet p (length cells) g .place) (waiting sheet cells g) signs
   unfolding afterRest
   step-after p cells g signs h = runs-step p cells g signs h .place
 
-  pub step-bytes : (p : Place) (cells : List ℕ) (g : ℕ) (signs : List ℕ) → length cells < W
-      → restBytes W P p cells (g ∷ signs) ≡ stepBytes W P p cells g ++ restBytes W P (stepped W P p (length cells) g .place) (waiting W cells g) signs
+  pub step-bytes : (p : Place) (cells : List ℕ) (g : ℕ) (signs : List ℕ) → length cells < sheet .width
+      → restBytes sheet p cells (g ∷ signs) ≡ stepBytes sheet p cells g ++ restBytes sheet (stepped sheet p (length cells) g .place) (waiting sheet cells g) signs
   unfolding restBytes
   step-bytes p cells g signs h = runs-step p cells g signs h .written
 
-  pub end-after : (p : Place) (cells : List ℕ) → length cells ≤ W → afterRest W P p cells [] ≡ afterPageEnd P (afterFlush W P p (length cells))
+  pub end-after : (p : Place) (cells : List ℕ) → length cells ≤ sheet .width → afterRest sheet p cells [] ≡ afterPageEnd sheet (afterFlush sheet p (length cells))
   unfolding afterRest gathered ended cut afterItems afterItem
-  end-after p cells h = rw (cut-closed W wide cells h) (after-append p (closed cells) (pageEnd ∷ []) ∙ ap (λ (q : Place). afterPageEnd P q) (after-closed p cells))
+  end-after p cells h = rw (cut-closed (sheet .width) wide cells h) (after-append p (closed cells) (pageEnd ∷ []) ∙ ap (λ (q : Place). afterPageEnd sheet q) (after-closed p cells))
 
-  pub end-bytes : (p : Place) (cells : List ℕ) → length cells ≤ W
-      → restBytes W P p cells [] ≡ flushBytes W P p cells ++ pageEndBytes P (afterFlush W P p (length cells))
+  pub end-bytes : (p : Place) (cells : List ℕ) → length cells ≤ sheet .width
+      → restBytes sheet p cells [] ≡ flushBytes sheet p cells ++ pageEndBytes sheet (afterFlush sheet p (length cells))
   unfolding restBytes gathered ended itemsBytes itemBytes
   end-bytes p cells h =
-      rw (cut-closed W wide cells h)
+      rw (cut-closed (sheet .width) wide cells h)
       (bytes-append p (closed cells) (pageEnd ∷ [])
-      ∙ rw (bytes-closed p cells, after-closed p cells) (ap (λ (r : List ℕ). flushBytes W P p cells ++ r) (append-nil (pageEndBytes P (afterFlush W P p (length cells))))))
+      ∙ rw (bytes-closed p cells, after-closed p cells) (ap (λ (r : List ℕ). flushBytes sheet p cells ++ r) (append-nil (pageEndBytes sheet (afterFlush sheet p (length cells))))))
 
 -- ---- The numbers of the place stay small
 
-module _ (W P : ℕ) where
-  pub modest-flush : (m n : ℕ) (p : Place) → Modest m p → Modest (m + 4 + n) (afterFlush W P p n)
+module _ (sheet : Sheet) where
+  pub modest-flush : (m n : ℕ) (p : Place) → Modest m p → Modest (m + 4 + n) (afterFlush sheet p n)
   unfolding afterFlush
   modest-flush m n p d = go (ltb 0 n) refl
     where
-      go : (b : Bool) → ltb 0 n ≡ b → Modest (m + 4 + n) (afterFlush W P p n)
-      go true e = rw (e, afterFlush) (modest-word W P m n p d)
+      go : (b : Bool) → ltb 0 n ≡ b → Modest (m + 4 + n) (afterFlush sheet p n)
+      go true e = rw (e, afterFlush) (modest-word sheet m n p d)
       go false e = rw (e, afterFlush) (modest-more (omega arith) d)
 
-  pub modest-format : (m g : ℕ) (p : Place) → Modest m p → Modest (m + 4) (afterFormat W P p g)
+  pub modest-format : (m g : ℕ) (p : Place) → Modest m p → Modest (m + 4) (afterFormat sheet p g)
   modest-format m g p d = go (formatOf g) refl
     where
-      go : (o : Option Item) → formatOf g ≡ o → Modest (m + 4) (afterFormat W P p g)
+      go : (o : Option Item) → formatOf g ≡ o → Modest (m + 4) (afterFormat sheet p g)
       go none e = unfold afterFormat in rw (e, afterFormat) (modest-more (omega arith) d)
-      go (some lineEnd) e = unfold afterFormat afterItem in rw (e, afterFormat) (modest-more (omega arith) (modest-line-end P m p d))
-      go (some emptyLine) e = unfold afterFormat afterItem in rw (e, afterFormat) (modest-empty-line P m p d)
-      go (some paragraph) e = unfold afterFormat afterItem in rw (e, afterFormat) (modest-paragraph P m p d)
-      go (some pageEnd) e = unfold afterFormat afterItem in rw (e, afterFormat) (modest-page-end P m p d)
+      go (some lineEnd) e = unfold afterFormat afterItem in rw (e, afterFormat) (modest-more (omega arith) (modest-line-end sheet m p d))
+      go (some emptyLine) e = unfold afterFormat afterItem in rw (e, afterFormat) (modest-empty-line sheet m p d)
+      go (some paragraph) e = unfold afterFormat afterItem in rw (e, afterFormat) (modest-paragraph sheet m p d)
+      go (some pageEnd) e = unfold afterFormat afterItem in rw (e, afterFormat) (modest-page-end sheet m p d)
       go (some (word cells)) e = absurd (format-no-word g cells e)
 
   -- a sign adds at most 70 to each number, where no more cells wait than a line holds
-  pub modest-step : (m n g : ℕ) (p : Place) → n ≤ mostWidth → Modest m p → Modest (m + 70) (stepped W P p n g .place)
+  pub modest-step : (m n g : ℕ) (p : Place) → n ≤ mostWidth → Modest m p → Modest (m + 70) (stepped sheet p n g .place)
   unfolding stepped
-  modest-step m n g p h d = go (eqb g blankCell) (isThere (formatOf g)) (eqb (n + 1) W) refl refl refl
+  modest-step m n g p h d = go (eqb g blankCell) (isThere (formatOf g)) (eqb (n + 1) (sheet .width)) refl refl refl
     where
-      go : (b f full : Bool) → eqb g blankCell ≡ b → isThere (formatOf g) ≡ f → eqb (n + 1) W ≡ full → Modest (m + 70) (stepped W P p n g .place)
+      go : (b f full : Bool) → eqb g blankCell ≡ b → isThere (formatOf g) ≡ f → eqb (n + 1) (sheet .width) ≡ full → Modest (m + 70) (stepped sheet p n g .place)
       go true f full x y z = rw x (modest-more (omega arith) (modest-flush m n p d))
-      go false true full x y z = rw (x, y) (modest-more (omega arith) (modest-format (m + 4 + n) g (afterFlush W P p n) (modest-flush m n p d)))
-      go false false true x y z = rw (x, y, z) (modest-more (omega arith) (modest-word W P m (n + 1) p d))
+      go false true full x y z = rw (x, y) (modest-more (omega arith) (modest-format (m + 4 + n) g (afterFlush sheet p n) (modest-flush m n p d)))
+      go false false true x y z = rw (x, y, z) (modest-more (omega arith) (modest-word sheet m (n + 1) p d))
       go false false false x y z = rw (x, y, z) (modest-more (omega arith) d)
 
 -- the test for a format sign
@@ -325,14 +326,14 @@ format-test g = go (eqb g signLineEnd) (eqb g signEmptyLine) (eqb g signParagrap
 
 -- ---- A turn of a loop over the signs: what is left after it is what was left before
 
-module _ (W P : ℕ) (wide : 1 ≤ W) (signs : List ℕ) (i : ℕ) (there : i < length signs) (p : Place) (cells : List ℕ) (below : length cells < W) where
+module _ (sheet : Sheet) (wide : 1 ≤ sheet .width) (signs : List ℕ) (i : ℕ) (there : i < length signs) (p : Place) (cells : List ℕ) (below : length cells < sheet .width) where
   abbrev sign : ℕ
   sign = getD signs i 0
 
-  pub turn-after : afterRest W P p cells (drop i signs) ≡ afterRest W P (stepped W P p (length cells) sign .place) (waiting W cells sign) (drop (i + 1) signs)
-  turn-after = rw (drop-cons signs i 0 there, add-one i) (step-after W P wide p cells sign (drop (suc i) signs) below)
+  pub turn-after : afterRest sheet p cells (drop i signs) ≡ afterRest sheet (stepped sheet p (length cells) sign .place) (waiting sheet cells sign) (drop (i + 1) signs)
+  turn-after = rw (drop-cons signs i 0 there, add-one i) (step-after sheet wide p cells sign (drop (suc i) signs) below)
 
   pub turn-bytes :
-      restBytes W P p cells (drop i signs)
-      ≡ stepBytes W P p cells sign ++ restBytes W P (stepped W P p (length cells) sign .place) (waiting W cells sign) (drop (i + 1) signs)
-  turn-bytes = rw (drop-cons signs i 0 there, add-one i) (step-bytes W P wide p cells sign (drop (suc i) signs) below)
+      restBytes sheet p cells (drop i signs)
+      ≡ stepBytes sheet p cells sign ++ restBytes sheet (stepped sheet p (length cells) sign .place) (waiting sheet cells sign) (drop (i + 1) signs)
+  turn-bytes = rw (drop-cons signs i 0 there, add-one i) (step-bytes sheet wide p cells sign (drop (suc i) signs) below)

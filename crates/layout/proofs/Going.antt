@@ -16,27 +16,28 @@ use Rattle.layout.proofs.Moves as Moves
 use Rattle.layout.proofs.Bytes as Bytes
 use Rattle.layout.proofs.Gather as Gather
 use Rattle.layout.proofs.Sets.{put-then}
+use Rattle.layout.specs.declared.Sheet.{Sheet}
 
-pub record Going (W P : ℕ) (signs out₀ out word : List ℕ) (p : Place) (n i : ℕ) : Type 0 where
+pub record Going (sheet : Sheet) (signs out₀ out word : List ℕ) (p : Place) (n i : ℕ) : Type 0 where
   pub there : i ≤ length signs
-  pub below : n < W
+  pub below : n < sheet .width
   pub buffer : length word ≡ 60
   pub same : length out ≡ length out₀
   pub modest : Modest (70 * i) p
   pub done : List ℕ
   pub page : out ≡ sets out₀ 0 done
   pub written : p .written ≡ length done
-  pub whole : done ++ restBytes W P p (take n word) (drop i signs) ≡ volume W P (itemsOf W signs)
+  pub whole : done ++ restBytes sheet p (take n word) (drop i signs) ≡ volume sheet (itemsOf (sheet .width) signs)
 
 -- the sizes are right, and the whole has room
-pub record Sized (W P : ℕ) (signs out₀ : List ℕ) : Type 0 where
+pub record Sized (sheet : Sheet) (signs out₀ : List ℕ) : Type 0 where
   pub most : length signs ≤ 65536
-  pub wide : 1 ≤ W
-  pub narrow : W ≤ 60
-  pub room : length (volume W P (itemsOf W signs)) ≤ length out₀
+  pub wide : 1 ≤ sheet .width
+  pub narrow : sheet .width ≤ 60
+  pub room : length (volume sheet (itemsOf (sheet .width) signs)) ≤ length out₀
 
-module _ {W P : ℕ} {signs out₀ : List ℕ} (z : Sized W P signs out₀) where
-  pub going-first : (word : List ℕ) → length word ≡ 60 → Going W P signs out₀ out₀ word start 0 0
+module _ {sheet : Sheet} {signs out₀ : List ℕ} (z : Sized sheet signs out₀) where
+  pub going-first : (word : List ℕ) → length word ≡ 60 → Going sheet signs out₀ out₀ word start 0 0
   unfolding restBytes volume itemsOf wordsOf
   going-first word e =
       let w = z .wide in
@@ -52,7 +53,7 @@ module _ {W P : ℕ} {signs out₀ : List ℕ} (z : Sized W P signs out₀) wher
         whole = refl;
       }
 
-  module _ {out word : List ℕ} {p : Place} {n i : ℕ} (v : Going W P signs out₀ out word p n i) where
+  module _ {out word : List ℕ} {p : Place} {n i : ℕ} (v : Going sheet signs out₀ out word p n i) where
     abbrev cells : List ℕ
     cells = take n word
 
@@ -66,53 +67,53 @@ module _ {W P : ℕ} {signs out₀ : List ℕ} (z : Sized W P signs out₀) wher
       g = getD signs i 0
 
       turn :
-          restBytes W P p cells (drop i signs)
-          ≡ stepBytes W P p cells g ++ restBytes W P (stepped W P p n g .place) (waiting W cells g) (drop (i + 1) signs)
+          restBytes sheet p cells (drop i signs)
+          ≡ stepBytes sheet p cells g ++ restBytes sheet (stepped sheet p n g .place) (waiting sheet cells g) (drop (i + 1) signs)
       turn =
           let b = v .below in
           let s = size in
-          Gather.turn-bytes W P (z .wide) signs i more p cells (omega arith)
-          ∙ ap (λ (k : ℕ). stepBytes W P p cells g ++ restBytes W P (stepped W P p k g .place) (waiting W cells g) (drop (i + 1) signs)) size
+          Gather.turn-bytes sheet (z .wide) signs i more p cells (omega arith)
+          ∙ ap (λ (k : ℕ). stepBytes sheet p cells g ++ restBytes sheet (stepped sheet p k g .place) (waiting sheet cells g) (drop (i + 1) signs)) size
 
-      pub sign-room : Room (2 ^ 31) out p (stepBytes W P p cells g)
+      pub sign-room : Room (2 ^ 31) out p (stepBytes sheet p cells g)
       sign-room =
           let t = ap length turn in
-          let x = length-append (stepBytes W P p cells g) (restBytes W P (stepped W P p n g .place) (waiting W cells g) (drop (i + 1) signs)) in
+          let x = length-append (stepBytes sheet p cells g) (restBytes sheet (stepped sheet p n g .place) (waiting sheet cells g) (drop (i + 1) signs)) in
           let y = ap length (v .whole) in
-          let w = length-append (v .done) (restBytes W P p cells (drop i signs)) in
+          let w = length-append (v .done) (restBytes sheet p cells (drop i signs)) in
           let r = z .room in
           let m = z .most in
           let a = v .written in
           let b = v .same in
           record { modest = Moves.modest-more (omega arith) (v .modest); room = omega arith }
 
-      pub going-more : {out′ word′ : List ℕ} {r : Gathering} → Signed W P out p word n g out′ word′ r → length word′ ≡ 60
-          → Going W P signs out₀ out′ word′ (r .place) (r .cells) (i + 1)
+      pub going-more : {out′ word′ : List ℕ} {r : Gathering} → Signed sheet out p word n g out′ word′ r → length word′ ≡ 60
+          → Going sheet signs out₀ out′ word′ (r .place) (r .cells) (i + 1)
       going-more {out′} {word′} {r} s l =
           let b = v .below in
           let narrow = z .narrow in
           let k = size in
-          let bytes : List ℕ = stepBytes W P p cells g in
-          let q : Place = stepped W P p n g .place in
+          let bytes : List ℕ = stepBytes sheet p cells g in
+          let q : Place = stepped sheet p n g .place in
           let e : r .place ≡ q = ap (λ (x : Gathering). x .place) (s .place) in
-          let u : r .cells ≡ length (waiting W cells g) =
-          ap (λ (x : Gathering). x .cells) (s .place) ∙ ap (λ (j : ℕ). stepped W P p j g .cells) (sym size) ∙ sym (Gather.waiting-length W P (z .wide) p cells g) in
-          let f = Gather.waiting-below W P (z .wide) cells g (omega arith) in
+          let u : r .cells ≡ length (waiting sheet cells g) =
+          ap (λ (x : Gathering). x .cells) (s .place) ∙ ap (λ (j : ℕ). stepped sheet p j g .cells) (sym size) ∙ sym (Gather.waiting-length sheet (z .wide) p cells g) in
+          let f = Gather.waiting-below sheet (z .wide) cells g (omega arith) in
           let w : q .written ≡ p .written + length bytes =
-          ap (λ (j : ℕ). stepped W P p j g .place .written) (sym size) ∙ Bytes.written-step W P p cells g in
+          ap (λ (j : ℕ). stepped sheet p j g .place .written) (sym size) ∙ Bytes.written-step sheet p cells g in
           let a = v .written in
           record {
             there = omega arith;
             below = omega arith;
             buffer = l;
             same = ap length (s .page) ∙ length-sets out (p .written) bytes ∙ v .same;
-            modest = rw e (Moves.modest-more (omega arith) (Gather.modest-step W P (70 * i) n g p (omega arith) (v .modest)));
+            modest = rw e (Moves.modest-more (omega arith) (Gather.modest-step sheet (70 * i) n g p (omega arith) (v .modest)));
             done = v .done ++ bytes;
             page = put-then out₀ out out′ 0 (v .done) bytes (v .page) (s .page) (omega arith);
             written = let x = length-append (v .done) bytes in rw e (omega arith);
             whole =
                 rw (e, s .waits)
-                (append-assoc (v .done) bytes (restBytes W P q (waiting W cells g) (drop (i + 1) signs))
+                (append-assoc (v .done) bytes (restBytes sheet q (waiting sheet cells g) (drop (i + 1) signs))
                 ∙ ap (λ (y : List ℕ). v .done ++ y) (sym turn) ∙ v .whole);
           }
 
@@ -120,32 +121,32 @@ module _ {W P : ℕ} {signs out₀ : List ℕ} (z : Sized W P signs out₀) wher
 
     module _ (none : length signs ≤ i) where
       abbrev flushed : Place
-      flushed = afterFlush W P p n
+      flushed = afterFlush sheet p n
 
-      flushed-same : afterFlush W P p (length cells) ≡ flushed
-      flushed-same = ap (λ (k : ℕ). afterFlush W P p k) size
+      flushed-same : afterFlush sheet p (length cells) ≡ flushed
+      flushed-same = ap (λ (k : ℕ). afterFlush sheet p k) size
 
-      rest : restBytes W P p cells (drop i signs) ≡ flushBytes W P p cells ++ pageEndBytes P flushed
+      rest : restBytes sheet p cells (drop i signs) ≡ flushBytes sheet p cells ++ pageEndBytes sheet flushed
       rest =
           let b = v .below in
           let s = size in
-          ap (λ (x : List ℕ). restBytes W P p cells x) (drop-of-length-le signs {i = i} none)
-          ∙ Gather.end-bytes W P (z .wide) p cells (omega arith)
-          ∙ ap (λ (q : Place). flushBytes W P p cells ++ pageEndBytes P q) flushed-same
+          ap (λ (x : List ℕ). restBytes sheet p cells x) (drop-of-length-le signs {i = i} none)
+          ∙ Gather.end-bytes sheet (z .wide) p cells (omega arith)
+          ∙ ap (λ (q : Place). flushBytes sheet p cells ++ pageEndBytes sheet q) flushed-same
 
-      flushed-written : flushed .written ≡ p .written + length (flushBytes W P p cells)
-      flushed-written = ap (λ (q : Place). q .written) (sym flushed-same) ∙ Bytes.written-flush W P p cells
+      flushed-written : flushed .written ≡ p .written + length (flushBytes sheet p cells)
+      flushed-written = ap (λ (q : Place). q .written) (sym flushed-same) ∙ Bytes.written-flush sheet p cells
 
-      all-fits : length (v .done) + length (flushBytes W P p cells) + length (pageEndBytes P flushed) ≤ length out₀
+      all-fits : length (v .done) + length (flushBytes sheet p cells) + length (pageEndBytes sheet flushed) ≤ length out₀
       all-fits =
           let t = ap length rest in
-          let x = length-append (flushBytes W P p cells) (pageEndBytes P flushed) in
+          let x = length-append (flushBytes sheet p cells) (pageEndBytes sheet flushed) in
           let y = ap length (v .whole) in
-          let w = length-append (v .done) (restBytes W P p cells (drop i signs)) in
+          let w = length-append (v .done) (restBytes sheet p cells (drop i signs)) in
           let r = z .room in
           omega arith
 
-      pub flush-room : Room (2 ^ 32) out p (flushBytes W P p cells)
+      pub flush-room : Room (2 ^ 32) out p (flushBytes sheet p cells)
       flush-room =
           let f = all-fits in
           let m = z .most in
@@ -154,8 +155,8 @@ module _ {W P : ℕ} {signs out₀ : List ℕ} (z : Sized W P signs out₀) wher
           let b = v .same in
           record { modest = Moves.modest-more (omega arith) (v .modest); room = omega arith }
 
-      pub page-end-room : {out′ : List ℕ} {q : Place} → Moved out p (flushBytes W P p cells) out′ (afterFlush W P p (length cells)) q
-          → Room (2 ^ 32) out′ q (pageEndBytes P q)
+      pub page-end-room : {out′ : List ℕ} {q : Place} → Moved out p (flushBytes sheet p cells) out′ (afterFlush sheet p (length cells)) q
+          → Room (2 ^ 32) out′ q (pageEndBytes sheet q)
       page-end-room {out′} {q} s =
           let f = all-fits in
           let w = flushed-written in
@@ -165,20 +166,20 @@ module _ {W P : ℕ} {signs out₀ : List ℕ} (z : Sized W P signs out₀) wher
           let b = v .same in
           let narrow = z .narrow in
           let k = v .below in
-          let l = ap length (s .page) ∙ length-sets out (p .written) (flushBytes W P p cells) in
+          let l = ap length (s .page) ∙ length-sets out (p .written) (flushBytes sheet p cells) in
           rw (s .place ∙ flushed-same)
-          (record { modest = Moves.modest-more (omega arith) (Gather.modest-flush W P (70 * i) n p (v .modest)); room = omega arith })
+          (record { modest = Moves.modest-more (omega arith) (Gather.modest-flush sheet (70 * i) n p (v .modest)); room = omega arith })
 
-      pub whole-written : {out′ out″ : List ℕ} {q r : Place} → Moved out p (flushBytes W P p cells) out′ (afterFlush W P p (length cells)) q
-          → Moved out′ q (pageEndBytes P q) out″ (afterPageEnd P q) r → out″ ≡ sets out₀ 0 (volume W P (itemsOf W signs))
+      pub whole-written : {out′ out″ : List ℕ} {q r : Place} → Moved out p (flushBytes sheet p cells) out′ (afterFlush sheet p (length cells)) q
+          → Moved out′ q (pageEndBytes sheet q) out″ (afterPageEnd sheet q) r → out″ ≡ sets out₀ 0 (volume sheet (itemsOf (sheet .width) signs))
       whole-written {out′} {out″} {q} {r} s e =
           let w = flushed-written in
           let a = v .written in
-          let x = length-append (v .done) (flushBytes W P p cells) in
+          let x = length-append (v .done) (flushBytes sheet p cells) in
           let h = s .place ∙ flushed-same in
-          let first : out′ ≡ sets out₀ 0 (v .done ++ flushBytes W P p cells) = put-then out₀ out out′ 0 (v .done) (flushBytes W P p cells) (v .page) (s .page) (omega arith) in
-          put-then out₀ out′ out″ 0 (v .done ++ flushBytes W P p cells) (pageEndBytes P flushed) first
-          (e .page ∙ ap (λ (y : Place). sets out′ (y .written) (pageEndBytes P y)) h)
+          let first : out′ ≡ sets out₀ 0 (v .done ++ flushBytes sheet p cells) = put-then out₀ out out′ 0 (v .done) (flushBytes sheet p cells) (v .page) (s .page) (omega arith) in
+          put-then out₀ out′ out″ 0 (v .done ++ flushBytes sheet p cells) (pageEndBytes sheet flushed) first
+          (e .page ∙ ap (λ (y : Place). sets out′ (y .written) (pageEndBytes sheet y)) h)
           (omega arith)
           ∙ ap (λ (y : List ℕ). sets out₀ 0 y)
-          (append-assoc (v .done) (flushBytes W P p cells) (pageEndBytes P flushed) ∙ ap (λ (y : List ℕ). v .done ++ y) (sym rest) ∙ v .whole)
+          (append-assoc (v .done) (flushBytes sheet p cells) (pageEndBytes sheet flushed) ∙ ap (λ (y : List ℕ). v .done ++ y) (sym rest) ∙ v .whole)

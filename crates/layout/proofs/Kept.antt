@@ -48,6 +48,7 @@ use Rattle.layout.specs.Spots.{spot, spotAfter, spotsFrom}
 use Rattle.layout.specs.Fitting.{WordFits, Fitting, wordsIn}
 use Rattle.layout.specs.declared.Place.{Place}
 use Rattle.layout.proofs.Moves.{line-is-fresh, line-end-is-fresh, page-end-lined, page-end-empty, held-or-empty}
+use Rattle.layout.specs.declared.Sheet.{Sheet}
 
 -- ---- Of the four moves of a place, the two that the definitions have no name for
 
@@ -57,178 +58,178 @@ lined p = record { column = 0; line = p .line + 1; opening = p .opening; written
 abbrev pub opened : Place → Place
 opened p = record { column = p .column; line = p .line; opening = true; written = p .written; lines = p .lines; pages = p .pages }
 
-pub record Kept (W P : ℕ) (R : List ℕ → List (List ℕ) → List Spot → Place → Type 0) : Type 0 where
-  pub cells : (bytes : List ℕ) (words : List (List ℕ)) (spots : List Spot) (p : Place) (blanks : ℕ) (w : List ℕ) → WordFits W w
-      → p .column + blanks + length w ≤ W → R bytes words spots p
+pub record Kept (sheet : Sheet) (R : List ℕ → List (List ℕ) → List Spot → Place → Type 0) : Type 0 where
+  pub cells : (bytes : List ℕ) (words : List (List ℕ)) (spots : List Spot) (p : Place) (blanks : ℕ) (w : List ℕ) → WordFits (sheet .width) w
+      → p .column + blanks + length w ≤ sheet .width → R bytes words spots p
       → R (bytes ++ cellsAfter blanks w) (words ++ w ∷ []) (spots ++ spot (afterCells p blanks (length w)) ∷ []) (afterCells p blanks (length w))
-  pub line : (bytes : List ℕ) (words : List (List ℕ)) (spots : List Spot) (p : Place) → p .line < P → R bytes words spots p
+  pub line : (bytes : List ℕ) (words : List (List ℕ)) (spots : List Spot) (p : Place) → p .line < sheet .length → R bytes words spots p
       → R (bytes ++ lineMark ∷ []) words spots (lined p)
-  pub page : (bytes : List ℕ) (words : List (List ℕ)) (spots : List Spot) (p : Place) → p .column ≡ 0 → 0 < p .line → p .line ≤ P
+  pub page : (bytes : List ℕ) (words : List (List ℕ)) (spots : List Spot) (p : Place) → p .column ≡ 0 → 0 < p .line → p .line ≤ sheet .length
       → R bytes words spots p → R (bytes ++ pageMark ∷ []) words spots (afterPage p)
   pub opens : (bytes : List ℕ) (words : List (List ℕ)) (spots : List Spot) (p : Place) → R bytes words spots p → R bytes words spots (opened p)
 
 -- ---- What opens a line fits
 
-opening-fits : (W : ℕ) (p : Place) (n : ℕ) → n ≤ W → openingBlanks W p n + n ≤ W
+opening-fits : (sheet : Sheet) (p : Place) (n : ℕ) → n ≤ sheet .width → openingBlanks sheet p n + n ≤ sheet .width
 unfolding openingBlanks
-opening-fits W p n h = go (p .opening) (leb (paragraphBlanks + n) W) refl
+opening-fits sheet p n h = go (p .opening) (leb (paragraphBlanks + n) (sheet .width)) refl
   where
-    go : (b c : Bool) → leb (paragraphBlanks + n) W ≡ c → cond (b && c) paragraphBlanks 0 + n ≤ W
-    go true true e = leb-true (paragraphBlanks + n) W e
+    go : (b c : Bool) → leb (paragraphBlanks + n) (sheet .width) ≡ c → cond (b && c) paragraphBlanks 0 + n ≤ sheet .width
+    go true true e = leb-true (paragraphBlanks + n) (sheet .width) e
     go true false e = omega arith
     go false c e = omega arith
 
 -- ---- The end of text is as 73
 
-bytes-to-the-end : (W P : ℕ) (p : Place) (items : List Item)
-    → itemsBytes W P p (items ++ pageEnd ∷ []) ≡ itemsBytes W P p items ++ pageEndBytes P (afterItems W P p items)
+bytes-to-the-end : (sheet : Sheet) (p : Place) (items : List Item)
+    → itemsBytes sheet p (items ++ pageEnd ∷ []) ≡ itemsBytes sheet p items ++ pageEndBytes sheet (afterItems sheet p items)
 unfolding itemsBytes itemBytes afterItems
-bytes-to-the-end W P p [] = append-nil (pageEndBytes P p)
-bytes-to-the-end W P p (item ∷ items) = rw (append-assoc, bytes-to-the-end W P (afterItem W P p item) items)
+bytes-to-the-end sheet p [] = append-nil (pageEndBytes sheet p)
+bytes-to-the-end sheet p (item ∷ items) = rw (append-assoc, bytes-to-the-end sheet (afterItem sheet p item) items)
 
-place-at-the-end : (W P : ℕ) (p : Place) (items : List Item)
-    → afterItems W P p (items ++ pageEnd ∷ []) ≡ afterPageEnd P (afterItems W P p items)
+place-at-the-end : (sheet : Sheet) (p : Place) (items : List Item)
+    → afterItems sheet p (items ++ pageEnd ∷ []) ≡ afterPageEnd sheet (afterItems sheet p items)
 unfolding afterItems afterItem
-place-at-the-end W P p [] = refl
-place-at-the-end W P p (item ∷ items) = place-at-the-end W P (afterItem W P p item) items
+place-at-the-end sheet p [] = refl
+place-at-the-end sheet p (item ∷ items) = place-at-the-end sheet (afterItem sheet p item) items
 
 -- no line is left open, and no page
 pub record AtEnd (p : Place) : Type 0 where
   pub column : p .column ≡ 0
   pub line : p .line ≡ 0
 
-page-ends : (P : ℕ) (p : Place) → p .line < P → AtEnd (afterPageEnd P p)
+page-ends : (sheet : Sheet) (p : Place) → p .line < sheet .length → AtEnd (afterPageEnd sheet p)
 unfolding afterPage
-page-ends P p h = go (held-or-empty (afterLineEnd P p .line))
+page-ends sheet p h = go (held-or-empty (afterLineEnd sheet p .line))
   where
-    go : (afterLineEnd P p .line ≡ 0) ⊎ (0 < afterLineEnd P p .line) → AtEnd (afterPageEnd P p)
-    go (inl e) = rw (page-end-empty P p e) (record { column = line-end-is-fresh P p h .empty; line = e })
-    go (inr l) = rw (page-end-lined P p l) (record { column = refl; line = refl })
+    go : (afterLineEnd sheet p .line ≡ 0) ⊎ (0 < afterLineEnd sheet p .line) → AtEnd (afterPageEnd sheet p)
+    go (inl e) = rw (page-end-empty sheet p e) (record { column = line-end-is-fresh sheet p h .empty; line = e })
+    go (inr l) = rw (page-end-lined sheet p l) (record { column = refl; line = refl })
 
 -- ---- The items, by their moves
 
-module _ (W P : ℕ) (R : List ℕ → List (List ℕ) → List Spot → Place → Type 0) (kept : Kept W P R) where
+module _ (sheet : Sheet) (R : List ℕ → List (List ℕ) → List Spot → Place → Type 0) (kept : Kept sheet R) where
   -- `R` holds, and the page has room for a line
   record Held (bytes : List ℕ) (words : List (List ℕ)) (spots : List Spot) (p : Place) : Type 0 where
-    room : p .line < P
+    room : p .line < sheet .length
     holds : R bytes words spots p
 
   module _ (bytes : List ℕ) (words : List (List ℕ)) (spots : List Spot) (p : Place) (held : Held bytes words spots p) where
-    line-kept : Held (bytes ++ lineBytes P p) words spots (afterLine P p)
+    line-kept : Held (bytes ++ lineBytes sheet p) words spots (afterLine sheet p)
     unfolding afterLine lineBytes fillsPage afterPage
-    line-kept = go (eqb (p .line + 1) P) refl (kept .line bytes words spots p (held .room) (held .holds))
+    line-kept = go (eqb (p .line + 1) (sheet .length)) refl (kept .line bytes words spots p (held .room) (held .holds))
       where
-        go : (b : Bool) → eqb (p .line + 1) P ≡ b → R (bytes ++ lineMark ∷ []) words spots (lined p)
-            → Held (bytes ++ lineBytes P p) words spots (afterLine P p)
+        go : (b : Bool) → eqb (p .line + 1) (sheet .length) ≡ b → R (bytes ++ lineMark ∷ []) words spots (lined p)
+            → Held (bytes ++ lineBytes sheet p) words spots (afterLine sheet p)
         go true e r =
-            let h = eqb-true (p .line + 1) P e in
+            let h = eqb-true (p .line + 1) (sheet .length) e in
             let r′ = kept .page (bytes ++ lineMark ∷ []) words spots (lined p) refl (omega arith) (omega arith) r in
             let two : p .written + 1 + 1 ≡ p .written + 2 = omega arith in
             rw e (record { room = omega arith; holds = rw (append-assoc, two) at r′ })
         go false e r =
-            let h : p .line + 1 ≢ P = eqb-false (p .line + 1) P e in
+            let h : p .line + 1 ≢ sheet .length = eqb-false (p .line + 1) (sheet .length) e in
             rw e (record { room = omega arith; holds = r })
 
-    line-end-kept : Held (bytes ++ lineEndBytes P p) words spots (afterLineEnd P p)
+    line-end-kept : Held (bytes ++ lineEndBytes sheet p) words spots (afterLineEnd sheet p)
     unfolding afterLineEnd lineEndBytes
     line-end-kept = go (holdsCell p) refl
       where
-        go : (b : Bool) → holdsCell p ≡ b → Held (bytes ++ lineEndBytes P p) words spots (afterLineEnd P p)
+        go : (b : Bool) → holdsCell p ≡ b → Held (bytes ++ lineEndBytes sheet p) words spots (afterLineEnd sheet p)
         go true e = rw e line-kept
         go false e = rw (e, append-nil) held
 
   module _ (bytes : List ℕ) (words : List (List ℕ)) (spots : List Spot) (p : Place) (held : Held bytes words spots p) where
-    empty-line-kept : Held (bytes ++ emptyLineBytes P p) words spots (afterEmptyLine P p)
+    empty-line-kept : Held (bytes ++ emptyLineBytes sheet p) words spots (afterEmptyLine sheet p)
     unfolding afterEmptyLine emptyLineBytes
     empty-line-kept = go (hasLine q) refl (line-end-kept bytes words spots p held)
       where
         q : Place
-        q = afterLineEnd P p
+        q = afterLineEnd sheet p
 
-        go : (b : Bool) → hasLine q ≡ b → Held (bytes ++ lineEndBytes P p) words spots q
-            → Held (bytes ++ emptyLineBytes P p) words spots (afterEmptyLine P p)
-        go true e r = rw e (rw append-assoc at (line-kept (bytes ++ lineEndBytes P p) words spots q r))
+        go : (b : Bool) → hasLine q ≡ b → Held (bytes ++ lineEndBytes sheet p) words spots q
+            → Held (bytes ++ emptyLineBytes sheet p) words spots (afterEmptyLine sheet p)
+        go true e r = rw e (rw append-assoc at (line-kept (bytes ++ lineEndBytes sheet p) words spots q r))
         go false e r = rw (e, append-nil) r
 
-    page-end-kept : Held (bytes ++ pageEndBytes P p) words spots (afterPageEnd P p)
+    page-end-kept : Held (bytes ++ pageEndBytes sheet p) words spots (afterPageEnd sheet p)
     unfolding afterPageEnd pageEndBytes afterPage hasLine
     page-end-kept = go (ltb 0 (q .line)) refl (line-end-kept bytes words spots p held)
       where
         q : Place
-        q = afterLineEnd P p
+        q = afterLineEnd sheet p
 
-        go : (b : Bool) → ltb 0 (q .line) ≡ b → Held (bytes ++ lineEndBytes P p) words spots q
-            → Held (bytes ++ pageEndBytes P p) words spots (afterPageEnd P p)
+        go : (b : Bool) → ltb 0 (q .line) ≡ b → Held (bytes ++ lineEndBytes sheet p) words spots q
+            → Held (bytes ++ pageEndBytes sheet p) words spots (afterPageEnd sheet p)
         go true e r =
             let h = ltb-true 0 (q .line) e in
-            let r′ = kept .page (bytes ++ lineEndBytes P p) words spots q (line-end-is-fresh P p (held .room) .empty) h (omega arith) (r .holds) in
+            let r′ = kept .page (bytes ++ lineEndBytes sheet p) words spots q (line-end-is-fresh sheet p (held .room) .empty) h (omega arith) (r .holds) in
             rw e (record { room = omega arith; holds = rw append-assoc at r′ })
         go false e r = rw (e, append-nil) r
 
-    paragraph-kept : Held (bytes ++ paragraphBytes P p) words spots (afterParagraph P p)
+    paragraph-kept : Held (bytes ++ paragraphBytes sheet p) words spots (afterParagraph sheet p)
     unfolding afterParagraph paragraphBytes
     paragraph-kept =
         let r = line-end-kept bytes words spots p held in
-        record { room = r .room; holds = kept .opens (bytes ++ lineEndBytes P p) words spots (afterLineEnd P p) (r .holds) }
+        record { room = r .room; holds = kept .opens (bytes ++ lineEndBytes sheet p) words spots (afterLineEnd sheet p) (r .holds) }
 
   module _ (bytes : List ℕ) (words : List (List ℕ)) (spots : List Spot) (p : Place) (held : Held bytes words spots p) (w : List ℕ)
-      (fits : WordFits W w) where
-    cells-kept : (blanks : ℕ) → p .column + blanks + length w ≤ W → let q = afterCells p blanks (length w) in
+      (fits : WordFits (sheet .width) w) where
+    cells-kept : (blanks : ℕ) → p .column + blanks + length w ≤ sheet .width → let q = afterCells p blanks (length w) in
         Held (bytes ++ cellsAfter blanks w) (words ++ w ∷ []) (spots ++ spot q ∷ []) q
     unfolding afterCells
     cells-kept blanks h = record { room = held .room; holds = kept .cells bytes words spots p blanks w fits h (held .holds) }
 
-    opening-kept : p .column ≡ 0 → let blanks = openingBlanks W p (length w) in let q = afterCells p blanks (length w) in
+    opening-kept : p .column ≡ 0 → let blanks = openingBlanks sheet p (length w) in let q = afterCells p blanks (length w) in
         Held (bytes ++ cellsAfter blanks w) (words ++ w ∷ []) (spots ++ spot q ∷ []) q
     opening-kept h =
-        let l = opening-fits W p (length w) (fits .most) in
-        cells-kept (openingBlanks W p (length w)) (omega arith)
+        let l = opening-fits sheet p (length w) (fits .most) in
+        cells-kept (openingBlanks sheet p (length w)) (omega arith)
 
   module _ (bytes : List ℕ) (words : List (List ℕ)) (spots : List Spot) (p : Place) (held : Held bytes words spots p) (w : List ℕ)
-      (fits : WordFits W w) where
-    word-kept : let q = afterWord W P p (length w) in Held (bytes ++ wordBytes W P p w) (words ++ w ∷ []) (spots ++ spot q ∷ []) q
+      (fits : WordFits (sheet .width) w) where
+    word-kept : let q = afterWord sheet p (length w) in Held (bytes ++ wordBytes sheet p w) (words ++ w ∷ []) (spots ++ spot q ∷ []) q
     unfolding afterWord wordBytes holdsCell joins
-    word-kept = go (ltb 0 (p .column)) (leb (p .column + gapBlanks + length w) W) refl refl
+    word-kept = go (ltb 0 (p .column)) (leb (p .column + gapBlanks + length w) (sheet .width)) refl refl
       where
         Goal : Type 0
-        Goal = let q = afterWord W P p (length w) in Held (bytes ++ wordBytes W P p w) (words ++ w ∷ []) (spots ++ spot q ∷ []) q
+        Goal = let q = afterWord sheet p (length w) in Held (bytes ++ wordBytes sheet p w) (words ++ w ∷ []) (spots ++ spot q ∷ []) q
 
-        go : (b c : Bool) → ltb 0 (p .column) ≡ b → leb (p .column + gapBlanks + length w) W ≡ c → Goal
+        go : (b c : Bool) → ltb 0 (p .column) ≡ b → leb (p .column + gapBlanks + length w) (sheet .width) ≡ c → Goal
         go true true e f = rw (e, f) (cells-kept bytes words spots p held w fits gapBlanks (leb-true _ _ f))
         go true false e f =
             let r = line-kept bytes words spots p held in
-            let c = line-is-fresh P p (held .room) .empty in
-            rw (e, f) (rw append-assoc at (opening-kept (bytes ++ lineBytes P p) words spots (afterLine P p) r w fits c))
+            let c = line-is-fresh sheet p (held .room) .empty in
+            rw (e, f) (rw append-assoc at (opening-kept (bytes ++ lineBytes sheet p) words spots (afterLine sheet p) r w fits c))
         go false c e f =
             let h = ltb-false 0 (p .column) e in
             rw e (opening-kept bytes words spots p held w fits (omega arith))
 
-  items-held : (bytes : List ℕ) (words : List (List ℕ)) (spots : List Spot) (p : Place) (items : List Item) → Fitting W items
+  items-held : (bytes : List ℕ) (words : List (List ℕ)) (spots : List Spot) (p : Place) (items : List Item) → Fitting (sheet .width) items
       → Held bytes words spots p
-      → Held (bytes ++ itemsBytes W P p items) (words ++ wordsIn items) (spots ++ spotsFrom W P p items) (afterItems W P p items)
+      → Held (bytes ++ itemsBytes sheet p items) (words ++ wordsIn items) (spots ++ spotsFrom sheet p items) (afterItems sheet p items)
   unfolding afterItem itemBytes afterItems itemsBytes wordsIn spotAfter spotsFrom
   items-held bytes words spots p [] empty held = simp append-nil held
   items-held bytes words spots p (word w ∷ items) (fits and rest) held =
-      let q = afterWord W P p (length w) in
+      let q = afterWord sheet p (length w) in
       let r = word-kept bytes words spots p held w fits in
-      simp append-assoc at (items-held (bytes ++ wordBytes W P p w) (words ++ w ∷ []) (spots ++ spot q ∷ []) q items rest r)
+      simp append-assoc at (items-held (bytes ++ wordBytes sheet p w) (words ++ w ∷ []) (spots ++ spot q ∷ []) q items rest r)
   items-held bytes words spots p (lineEnd ∷ items) (fits and rest) held =
-      rw append-assoc at (items-held (bytes ++ lineEndBytes P p) words spots _ items rest (line-end-kept bytes words spots p held))
+      rw append-assoc at (items-held (bytes ++ lineEndBytes sheet p) words spots _ items rest (line-end-kept bytes words spots p held))
   items-held bytes words spots p (emptyLine ∷ items) (fits and rest) held =
-      rw append-assoc at (items-held (bytes ++ emptyLineBytes P p) words spots _ items rest (empty-line-kept bytes words spots p held))
+      rw append-assoc at (items-held (bytes ++ emptyLineBytes sheet p) words spots _ items rest (empty-line-kept bytes words spots p held))
   items-held bytes words spots p (paragraph ∷ items) (fits and rest) held =
-      rw append-assoc at (items-held (bytes ++ paragraphBytes P p) words spots _ items rest (paragraph-kept bytes words spots p held))
+      rw append-assoc at (items-held (bytes ++ paragraphBytes sheet p) words spots _ items rest (paragraph-kept bytes words spots p held))
   items-held bytes words spots p (pageEnd ∷ items) (fits and rest) held =
-      rw append-assoc at (items-held (bytes ++ pageEndBytes P p) words spots _ items rest (page-end-kept bytes words spots p held))
+      rw append-assoc at (items-held (bytes ++ pageEndBytes sheet p) words spots _ items rest (page-end-kept bytes words spots p held))
 
-  module _ (items : List Item) (fits : Fitting W items) (room : 0 < P) (outset : R [] [] [] start) where
-    at-the-end : Held (itemsBytes W P start items) (wordsIn items) (spotsFrom W P start items) (afterItems W P start items)
+  module _ (items : List Item) (fits : Fitting (sheet .width) items) (room : 0 < sheet .length) (outset : R [] [] [] start) where
+    at-the-end : Held (itemsBytes sheet start items) (wordsIn items) (spotsFrom sheet start items) (afterItems sheet start items)
     at-the-end = items-held [] [] [] start items fits (record { room = room; holds = outset })
 
-    pub volume-keeps : R (volume W P items) (wordsIn items) (spotsFrom W P start items) (volumeEnd W P items)
+    pub volume-keeps : R (volume sheet items) (wordsIn items) (spotsFrom sheet start items) (volumeEnd sheet items)
     unfolding volume volumeEnd ended
-    volume-keeps = rw (bytes-to-the-end W P start items, place-at-the-end W P start items) (page-end-kept _ _ _ _ at-the-end .holds)
+    volume-keeps = rw (bytes-to-the-end sheet start items, place-at-the-end sheet start items) (page-end-kept _ _ _ _ at-the-end .holds)
 
-    pub volume-ends : AtEnd (volumeEnd W P items)
+    pub volume-ends : AtEnd (volumeEnd sheet items)
     unfolding volumeEnd ended
-    volume-ends = rw (place-at-the-end W P start items) (page-ends P (afterItems W P start items) (at-the-end .room))
+    volume-ends = rw (place-at-the-end sheet start items) (page-ends sheet (afterItems sheet start items) (at-the-end .room))

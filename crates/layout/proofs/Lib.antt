@@ -4,7 +4,7 @@ pub mod NoLater
 pub mod Lists
 pub mod Kept
 pub mod Counts
-pub mod Sheet
+pub mod Volume
 pub mod Words
 pub mod Signs
 pub mod Drawn

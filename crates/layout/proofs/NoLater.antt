@@ -35,17 +35,18 @@ use Rattle.layout.specs.Spots.{spot, spotAfter, spotsFrom, layoutOf, wit
 use Rattle.layout.specs.declared.Place.{Place}
 use Rattle.layout.proofs.Moves as Moves
 use Rattle.layout.proofs.Permitted.{permitted-by-choices}
+use Rattle.layout.specs.declared.Sheet.{Sheet}
 
-module _ (P : ℕ) where
+module _ (sheet : Sheet) where
   -- ---- The lines of the page, and the pages, after `k` lines from a fresh page
 
   lineOf : ℕ → ℕ
   lineOf zero = 0
-  lineOf (suc k) = cond (eqb (lineOf k + 1) P) 0 (lineOf k + 1)
+  lineOf (suc k) = cond (eqb (lineOf k + 1) (sheet .length)) 0 (lineOf k + 1)
 
   pageOf : ℕ → ℕ
   pageOf zero = 0
-  pageOf (suc k) = cond (eqb (lineOf k + 1) P) (pageOf k + 1) (pageOf k)
+  pageOf (suc k) = cond (eqb (lineOf k + 1) (sheet .length)) (pageOf k + 1) (pageOf k)
 
   -- the pages, where a page that has a line is ended
   pagesBy : ℕ → ℕ
@@ -56,30 +57,30 @@ module _ (P : ℕ) where
     lines-at : p .lines ≡ lines + k
     pages-at : p .pages ≡ pages + pageOf k
     line-at : p .line ≡ lineOf k
-    room : p .line < P
+    room : p .line < sheet .length
 
-  counted-line : {lines pages k : ℕ} {p : Place} → Counted lines pages k p → Counted lines pages (suc k) (afterLine P p)
+  counted-line : {lines pages k : ℕ} {p : Place} → Counted lines pages k p → Counted lines pages (suc k) (afterLine sheet p)
   unfolding lineOf pageOf
-  counted-line {lines} {pages} {k} {p} c = go (decLt (p .line + 1) P)
+  counted-line {lines} {pages} {k} {p} c = go (decLt (p .line + 1) (sheet .length))
     where
-      go : Dec (p .line + 1 < P) → Counted lines pages (suc k) (afterLine P p)
+      go : Dec (p .line + 1 < sheet .length) → Counted lines pages (suc k) (afterLine sheet p)
       go (yes l) =
-          let e : eqb (lineOf k + 1) P ≡ false = ne-eqb (lineOf k + 1) P (λ q. omega arith) in
-          rw (Moves.line-goes-on P p l)
+          let e : eqb (lineOf k + 1) (sheet .length) ≡ false = ne-eqb (lineOf k + 1) (sheet .length) (λ q. omega arith) in
+          rw (Moves.line-goes-on sheet p l)
           (record { lines-at = omega arith; pages-at = rw e (c .pages-at); line-at = rw e (omega arith); room = l })
       go (no d) =
-          let f : p .line + 1 ≡ P = omega arith in
-          let e : eqb (lineOf k + 1) P ≡ true = eq-eqb (lineOf k + 1) P (omega arith) in
-          rw (Moves.line-fills P p f)
+          let f : p .line + 1 ≡ sheet .length = omega arith in
+          let e : eqb (lineOf k + 1) (sheet .length) ≡ true = eq-eqb (lineOf k + 1) (sheet .length) (omega arith) in
+          rw (Moves.line-fills sheet p f)
           (record { lines-at = omega arith; pages-at = rw e (omega arith); line-at = rw e refl; room = omega arith })
 
   -- more lines are no fewer pages
   page-of-more : (k j : ℕ) → k ≤ j → pageOf k ≤ pageOf j
   unfolding pageOf
   page-of-more k zero h = let e : k ≡ 0 = omega arith in rw e (omega arith)
-  page-of-more k (suc j) h = go (decLe k j) (page-of-more k j) (eqb (lineOf j + 1) P) refl
+  page-of-more k (suc j) h = go (decLe k j) (page-of-more k j) (eqb (lineOf j + 1) (sheet .length)) refl
     where
-      go : Dec (k ≤ j) → (k ≤ j → pageOf k ≤ pageOf j) → (b : Bool) → eqb (lineOf j + 1) P ≡ b → pageOf k ≤ pageOf (suc j)
+      go : Dec (k ≤ j) → (k ≤ j → pageOf k ≤ pageOf j) → (b : Bool) → eqb (lineOf j + 1) (sheet .length) ≡ b → pageOf k ≤ pageOf (suc j)
       go (yes l) less true e = let i = less l in rw e (omega arith)
       go (yes l) less false e = rw e (less l)
       go (no d) less b e = let f : k ≡ suc j = omega arith in rw f (omega arith)
@@ -94,9 +95,9 @@ module _ (P : ℕ) where
 
   pages-by-suc : (k : ℕ) → pagesBy (suc k) ≡ pageOf k + 1
   unfolding lineOf pageOf
-  pages-by-suc k = go (eqb (lineOf k + 1) P) refl
+  pages-by-suc k = go (eqb (lineOf k + 1) (sheet .length)) refl
     where
-      go : (b : Bool) → eqb (lineOf k + 1) P ≡ b → pagesBy (suc k) ≡ pageOf k + 1
+      go : (b : Bool) → eqb (lineOf k + 1) (sheet .length) ≡ b → pagesBy (suc k) ≡ pageOf k + 1
       go true e =
           let line : lineOf (suc k) ≡ 0 = rw e in
           let page : pageOf (suc k) ≡ pageOf k + 1 = rw e in
@@ -125,32 +126,32 @@ module _ (P : ℕ) where
 
   -- ---- What a word does to the count and the column
 
-  data Worded (W n : ℕ) (lines pages k : ℕ) (p q : Place) : Type 0 where
-    on-empty : p .column ≡ 0 → q .column ≡ openingBlanks W p n + n → Counted lines pages k q → Worded W n lines pages k p q
-    on-line : 0 < p .column → p .column + gapBlanks + n ≤ W → q .column ≡ p .column + gapBlanks + n → Counted lines pages k q
-        → Worded W n lines pages k p q
-    on-next : 0 < p .column → W < p .column + gapBlanks + n → q .column ≡ n → Counted lines pages (suc k) q → Worded W n lines pages k p q
+  data Worded (n : ℕ) (lines pages k : ℕ) (p q : Place) : Type 0 where
+    on-empty : p .column ≡ 0 → q .column ≡ openingBlanks sheet p n + n → Counted lines pages k q → Worded n lines pages k p q
+    on-line : 0 < p .column → p .column + gapBlanks + n ≤ sheet .width → q .column ≡ p .column + gapBlanks + n → Counted lines pages k q
+        → Worded n lines pages k p q
+    on-next : 0 < p .column → sheet .width < p .column + gapBlanks + n → q .column ≡ n → Counted lines pages (suc k) q → Worded n lines pages k p q
 
-  word-view : {W n lines pages k : ℕ} {p : Place} → Counted lines pages k p → (p .opening ≡ true → p .column ≡ 0)
-      → Worded W n lines pages k p (afterWord W P p n)
+  word-view : {n lines pages k : ℕ} {p : Place} → Counted lines pages k p → (p .opening ≡ true → p .column ≡ 0)
+      → Worded n lines pages k p (afterWord sheet p n)
   unfolding afterCells
-  word-view {W} {n} {lines} {pages} {k} {p} c idle = go (Moves.held-or-empty (p .column)) (decLe (p .column + gapBlanks + n) W)
+  word-view {n} {lines} {pages} {k} {p} c idle = go (Moves.held-or-empty (p .column)) (decLe (p .column + gapBlanks + n) (sheet .width))
     where
-      go : (p .column ≡ 0) ⊎ (0 < p .column) → Dec (p .column + gapBlanks + n ≤ W) → Worded W n lines pages k p (afterWord W P p n)
+      go : (p .column ≡ 0) ⊎ (0 < p .column) → Dec (p .column + gapBlanks + n ≤ sheet .width) → Worded n lines pages k p (afterWord sheet p n)
       go (inl e) d =
-          rw (Moves.word-starts W P p n e)
+          rw (Moves.word-starts sheet p n e)
           (on-empty e (omega arith) (record { lines-at = c .lines-at; pages-at = c .pages-at; line-at = c .line-at; room = c .room }))
       go (inr l) (yes f) =
-          rw (Moves.word-joins W P p n l f)
+          rw (Moves.word-joins sheet p n l f)
           (on-line l f refl (record { lines-at = c .lines-at; pages-at = c .pages-at; line-at = c .line-at; room = c .room }))
       go (inr l) (no d) =
-          let wide : W < p .column + gapBlanks + n = omega arith in
-          let q = afterLine P p in
+          let wide : sheet .width < p .column + gapBlanks + n = omega arith in
+          let q = afterLine sheet p in
           let m = counted-line c in
-          let o : openingBlanks W (afterLine P p) n ≡ 0 =
-          Moves.opening-none W (afterLine P p) n (Moves.line-keeps-opening P p ∙ not-opening (p .opening) refl) in
-          let z = Moves.line-is-fresh P p (c .room) .empty in
-          rw (Moves.word-overflows W P p n l wide, o)
+          let o : openingBlanks sheet (afterLine sheet p) n ≡ 0 =
+          Moves.opening-none sheet (afterLine sheet p) n (Moves.line-keeps-opening sheet p ∙ not-opening (p .opening) refl) in
+          let z = Moves.line-is-fresh sheet p (c .room) .empty in
+          rw (Moves.word-overflows sheet p n l wide, o)
           (on-next l wide (omega arith) (record { lines-at = m .lines-at; pages-at = m .pages-at; line-at = m .line-at; room = m .room }))
         where
           not-opening : (b : Bool) → p .opening ≡ b → p .opening ≡ false
@@ -163,12 +164,12 @@ module _ (P : ℕ) where
     stays : p .column ≡ 0 → Counted lines pages k q → LineEnded lines pages k p q
     moves : 0 < p .column → Counted lines pages (suc k) q → LineEnded lines pages k p q
 
-  line-end-view : {lines pages k : ℕ} {p : Place} → Counted lines pages k p → LineEnded lines pages k p (afterLineEnd P p)
+  line-end-view : {lines pages k : ℕ} {p : Place} → Counted lines pages k p → LineEnded lines pages k p (afterLineEnd sheet p)
   line-end-view {lines} {pages} {k} {p} c = go (Moves.held-or-empty (p .column))
     where
-      go : (p .column ≡ 0) ⊎ (0 < p .column) → LineEnded lines pages k p (afterLineEnd P p)
-      go (inl e) = rw (Moves.line-end-empty P p e) (stays e c)
-      go (inr l) = rw (Moves.line-end-held P p l) (moves l (counted-line c))
+      go : (p .column ≡ 0) ⊎ (0 < p .column) → LineEnded lines pages k p (afterLineEnd sheet p)
+      go (inl e) = rw (Moves.line-end-empty sheet p e) (stays e c)
+      go (inr l) = rw (Moves.line-end-held sheet p l) (moves l (counted-line c))
 
   -- ---- Ours, `p`, is behind theirs, `q`, or level with it
 
@@ -246,23 +247,23 @@ module _ (P : ℕ) where
   shut true h l = let e = h refl in absurd (omega arith)
   shut false h l = refl
 
-  same-blanks : (W n : ℕ) (p q : Place) → p .opening ≡ q .opening → openingBlanks W p n ≡ openingBlanks W q n
+  same-blanks : (n : ℕ) (p q : Place) → p .opening ≡ q .opening → openingBlanks sheet p n ≡ openingBlanks sheet q n
   unfolding openingBlanks
-  same-blanks W n p q e = rw e
+  same-blanks n p q e = rw e
 
-  behind-word : (W n : ℕ) {p q : Place} → Behind p q → Behind (afterWord W P p n) (afterWord W P q n)
-  behind-word W n {p} {q} b = go (word-view (b .ours) (b .idle)) (word-view (b .theirs) (b .idle′))
+  behind-word : (n : ℕ) {p q : Place} → Behind p q → Behind (afterWord sheet p n) (afterWord sheet q n)
+  behind-word n {p} {q} b = go (word-view (b .ours) (b .idle)) (word-view (b .theirs) (b .idle′))
     where
       p′ : Place
-      p′ = afterWord W P p n
+      p′ = afterWord sheet p n
 
       q′ : Place
-      q′ = afterWord W P q n
+      q′ = afterWord sheet q n
 
       at : (k j : ℕ) → Counted (b .lines) (b .pages) k p′ → Counted (b .lines′) (b .pages′) j q′ → Order k j (p′ .column) (q′ .column) → Behind p′ q′
       at k j c d o =
-          let f = Moves.word-spends-opening W P p n in
-          let g = Moves.word-spends-opening W P q n in
+          let f = Moves.word-spends-opening sheet p n in
+          let g = Moves.word-spends-opening sheet q n in
           moved-on b p′ q′ k j c d o (f ∙ sym g) (λ e. absurd (clash f e)) (λ e. absurd (clash g e))
 
       o : Order (b .k) (b .j) (p .column) (q .column)
@@ -271,12 +272,12 @@ module _ (P : ℕ) where
       less : b .k ≤ b .j
       less = b .order .counts
 
-      go : Worded W n (b .lines) (b .pages) (b .k) p p′ → Worded W n (b .lines′) (b .pages′) (b .j) q q′ → Behind p′ q′
+      go : Worded n (b .lines) (b .pages) (b .k) p p′ → Worded n (b .lines′) (b .pages′) (b .j) q q′ → Behind p′ q′
       go (on-empty e f c) (on-empty e′ f′ c′) =
-          let s = same-blanks W n p q (b .opening) in
+          let s = same-blanks n p q (b .opening) in
           at (b .k) (b .j) c c′ (record { counts = less; columns = λ h. omega arith })
       go (on-empty e f c) (on-line l g f′ c′) =
-          let s = Moves.opening-none W p n (b .opening ∙ shut (q .opening) (b .idle′) l) in
+          let s = Moves.opening-none sheet p n (b .opening ∙ shut (q .opening) (b .idle′) l) in
           at (b .k) (b .j) c c′ (record { counts = less; columns = λ h. omega arith })
       go (on-empty e f c) (on-next l g f′ c′) = at (b .k) (suc (b .j)) c c′ (record { counts = omega arith; columns = λ h. absurd (omega arith) })
       go (on-line l g f c) (on-empty e′ f′ c′) =
@@ -297,42 +298,42 @@ module _ (P : ℕ) where
 
   -- ---- Sign 70, in both layouts or in theirs alone
 
-  behind-line-end : {p q : Place} → Behind p q → Behind (afterLineEnd P p) (afterLineEnd P q)
+  behind-line-end : {p q : Place} → Behind p q → Behind (afterLineEnd sheet p) (afterLineEnd sheet q)
   behind-line-end {p} {q} b = go (line-end-view (b .ours)) (line-end-view (b .theirs))
     where
-      at : (k j : ℕ) → Counted (b .lines) (b .pages) k (afterLineEnd P p) → Counted (b .lines′) (b .pages′) j (afterLineEnd P q) → k ≤ j
-          → Behind (afterLineEnd P p) (afterLineEnd P q)
+      at : (k j : ℕ) → Counted (b .lines) (b .pages) k (afterLineEnd sheet p) → Counted (b .lines′) (b .pages′) j (afterLineEnd sheet q) → k ≤ j
+          → Behind (afterLineEnd sheet p) (afterLineEnd sheet q)
       at k j c d h =
-          level b (afterLineEnd P p) (afterLineEnd P q) k j c d h
-          (Moves.line-end-is-fresh P p (b .ours .room) .empty)
-          (Moves.line-end-is-fresh P q (b .theirs .room) .empty)
-          (Moves.line-end-keeps-opening P p ∙ b .opening ∙ sym (Moves.line-end-keeps-opening P q))
+          level b (afterLineEnd sheet p) (afterLineEnd sheet q) k j c d h
+          (Moves.line-end-is-fresh sheet p (b .ours .room) .empty)
+          (Moves.line-end-is-fresh sheet q (b .theirs .room) .empty)
+          (Moves.line-end-keeps-opening sheet p ∙ b .opening ∙ sym (Moves.line-end-keeps-opening sheet q))
 
       less : b .k ≤ b .j
       less = b .order .counts
 
-      go : LineEnded (b .lines) (b .pages) (b .k) p (afterLineEnd P p) → LineEnded (b .lines′) (b .pages′) (b .j) q (afterLineEnd P q)
-          → Behind (afterLineEnd P p) (afterLineEnd P q)
+      go : LineEnded (b .lines) (b .pages) (b .k) p (afterLineEnd sheet p) → LineEnded (b .lines′) (b .pages′) (b .j) q (afterLineEnd sheet q)
+          → Behind (afterLineEnd sheet p) (afterLineEnd sheet q)
       go (stays e c) (stays e′ c′) = at (b .k) (b .j) c c′ less
       go (stays e c) (moves l′ c′) = at (b .k) (suc (b .j)) c c′ (omega arith)
       go (moves l c) (stays e′ c′) = at (suc (b .k)) (b .j) c c′ (ahead (b .order) (λ x. omega arith))
       go (moves l c) (moves l′ c′) = at (suc (b .k)) (suc (b .j)) c c′ (omega arith)
 
-  behind-their-line-end : {p q : Place} → Behind p q → Behind p (afterLineEnd P q)
+  behind-their-line-end : {p q : Place} → Behind p q → Behind p (afterLineEnd sheet q)
   behind-their-line-end {p} {q} b = go (line-end-view (b .theirs))
     where
-      z′ : afterLineEnd P q .column ≡ 0
-      z′ = Moves.line-end-is-fresh P q (b .theirs .room) .empty
+      z′ : afterLineEnd sheet q .column ≡ 0
+      z′ = Moves.line-end-is-fresh sheet q (b .theirs .room) .empty
 
       less : b .k ≤ b .j
       less = b .order .counts
 
-      at : (j : ℕ) → Counted (b .lines′) (b .pages′) j (afterLineEnd P q) → Order (b .k) j (p .column) (afterLineEnd P q .column)
-          → Behind p (afterLineEnd P q)
+      at : (j : ℕ) → Counted (b .lines′) (b .pages′) j (afterLineEnd sheet q) → Order (b .k) j (p .column) (afterLineEnd sheet q .column)
+          → Behind p (afterLineEnd sheet q)
       at j d o =
-          moved-on b p (afterLineEnd P q) (b .k) j (b .ours) d o (b .opening ∙ sym (Moves.line-end-keeps-opening P q)) (b .idle) (λ e. z′)
+          moved-on b p (afterLineEnd sheet q) (b .k) j (b .ours) d o (b .opening ∙ sym (Moves.line-end-keeps-opening sheet q)) (b .idle) (λ e. z′)
 
-      go : LineEnded (b .lines′) (b .pages′) (b .j) q (afterLineEnd P q) → Behind p (afterLineEnd P q)
+      go : LineEnded (b .lines′) (b .pages′) (b .j) q (afterLineEnd sheet q) → Behind p (afterLineEnd sheet q)
       go (stays e′ c′) = at (b .j) c′ (record { counts = less; columns = λ h. let x = b .order .columns h in omega arith })
       go (moves l′ c′) = at (suc (b .j)) c′ (record { counts = omega arith; columns = λ h. absurd (omega arith) })
 
@@ -344,12 +345,12 @@ module _ (P : ℕ) where
     empty : p .column ≡ 0
     empty′ : q .column ≡ 0
 
-  emptied : {p q : Place} → Behind p q → Emptied (afterLineEnd P p) (afterLineEnd P q)
+  emptied : {p q : Place} → Behind p q → Emptied (afterLineEnd sheet p) (afterLineEnd sheet q)
   emptied {p} {q} b =
       record {
         behind = behind-line-end b;
-        empty = Moves.line-end-is-fresh P p (b .ours .room) .empty;
-        empty′ = Moves.line-end-is-fresh P q (b .theirs .room) .empty;
+        empty = Moves.line-end-is-fresh sheet p (b .ours .room) .empty;
+        empty′ = Moves.line-end-is-fresh sheet q (b .theirs .room) .empty;
       }
 
   -- where the lines of the pages differ, the counts are not level
@@ -363,49 +364,49 @@ module _ (P : ℕ) where
           let e : b .k ≡ b .j = omega arith in
           absurd (d (b .ours .line-at ∙ ap lineOf e ∙ sym (b .theirs .line-at)))
 
-  behind-empty-line : {p q : Place} → Behind p q → Behind (afterEmptyLine P p) (afterEmptyLine P q)
-  behind-empty-line {p} {q} b₀ = go (emptied b₀) (Moves.held-or-empty (afterLineEnd P p .line)) (Moves.held-or-empty (afterLineEnd P q .line))
+  behind-empty-line : {p q : Place} → Behind p q → Behind (afterEmptyLine sheet p) (afterEmptyLine sheet q)
+  behind-empty-line {p} {q} b₀ = go (emptied b₀) (Moves.held-or-empty (afterLineEnd sheet p .line)) (Moves.held-or-empty (afterLineEnd sheet q .line))
     where
       p₀ : Place
-      p₀ = afterLineEnd P p
+      p₀ = afterLineEnd sheet p
 
       q₀ : Place
-      q₀ = afterLineEnd P q
+      q₀ = afterLineEnd sheet q
 
-      opens : Behind p₀ q₀ → afterLine P p₀ .opening ≡ q₀ .opening
-      opens b = Moves.line-keeps-opening P p₀ ∙ b .opening
+      opens : Behind p₀ q₀ → afterLine sheet p₀ .opening ≡ q₀ .opening
+      opens b = Moves.line-keeps-opening sheet p₀ ∙ b .opening
 
-      go : Emptied p₀ q₀ → (p₀ .line ≡ 0) ⊎ (0 < p₀ .line) → (q₀ .line ≡ 0) ⊎ (0 < q₀ .line) → Behind (afterEmptyLine P p) (afterEmptyLine P q)
-      go a (inl e) (inl e′) = rw (Moves.empty-line-at-top P p e, Moves.empty-line-at-top P q e′) (a .behind)
+      go : Emptied p₀ q₀ → (p₀ .line ≡ 0) ⊎ (0 < p₀ .line) → (q₀ .line ≡ 0) ⊎ (0 < q₀ .line) → Behind (afterEmptyLine sheet p) (afterEmptyLine sheet q)
+      go a (inl e) (inl e′) = rw (Moves.empty-line-at-top sheet p e, Moves.empty-line-at-top sheet q e′) (a .behind)
       go a (inl e) (inr l′) =
           let b = a .behind in
           let o = b .order .counts in
-          rw (Moves.empty-line-at-top P p e, Moves.empty-line-below P q l′)
-          (level b p₀ (afterLine P q₀) (b .k) (suc (b .j)) (b .ours) (counted-line (b .theirs)) (omega arith) (a .empty)
-          (Moves.line-is-fresh P q₀ (b .theirs .room) .empty)
-          (b .opening ∙ sym (Moves.line-keeps-opening P q₀)))
+          rw (Moves.empty-line-at-top sheet p e, Moves.empty-line-below sheet q l′)
+          (level b p₀ (afterLine sheet q₀) (b .k) (suc (b .j)) (b .ours) (counted-line (b .theirs)) (omega arith) (a .empty)
+          (Moves.line-is-fresh sheet q₀ (b .theirs .room) .empty)
+          (b .opening ∙ sym (Moves.line-keeps-opening sheet q₀)))
       go a (inr l) (inl e′) =
           let b = a .behind in
-          rw (Moves.empty-line-below P p l, Moves.empty-line-at-top P q e′)
-          (level b (afterLine P p₀) q₀ (suc (b .k)) (b .j) (counted-line (b .ours)) (b .theirs) (apart b (λ e. omega arith))
-          (Moves.line-is-fresh P p₀ (b .ours .room) .empty)
+          rw (Moves.empty-line-below sheet p l, Moves.empty-line-at-top sheet q e′)
+          (level b (afterLine sheet p₀) q₀ (suc (b .k)) (b .j) (counted-line (b .ours)) (b .theirs) (apart b (λ e. omega arith))
+          (Moves.line-is-fresh sheet p₀ (b .ours .room) .empty)
           (a .empty′)
           (opens b))
       go a (inr l) (inr l′) =
           let b = a .behind in
           let o = b .order .counts in
-          rw (Moves.empty-line-below P p l, Moves.empty-line-below P q l′)
-          (level b (afterLine P p₀) (afterLine P q₀) (suc (b .k)) (suc (b .j)) (counted-line (b .ours)) (counted-line (b .theirs)) (omega arith)
-          (Moves.line-is-fresh P p₀ (b .ours .room) .empty)
-          (Moves.line-is-fresh P q₀ (b .theirs .room) .empty)
-          (opens b ∙ sym (Moves.line-keeps-opening P q₀)))
+          rw (Moves.empty-line-below sheet p l, Moves.empty-line-below sheet q l′)
+          (level b (afterLine sheet p₀) (afterLine sheet q₀) (suc (b .k)) (suc (b .j)) (counted-line (b .ours)) (counted-line (b .theirs)) (omega arith)
+          (Moves.line-is-fresh sheet p₀ (b .ours .room) .empty)
+          (Moves.line-is-fresh sheet q₀ (b .theirs .room) .empty)
+          (opens b ∙ sym (Moves.line-keeps-opening sheet q₀)))
 
-  behind-paragraph : {p q : Place} → Behind p q → Behind (afterParagraph P p) (afterParagraph P q)
+  behind-paragraph : {p q : Place} → Behind p q → Behind (afterParagraph sheet p) (afterParagraph sheet q)
   unfolding afterParagraph
   behind-paragraph {p} {q} b₀ =
       let a = emptied b₀ in
       let b = a .behind in
-      level b (afterParagraph P p) (afterParagraph P q) (b .k) (b .j)
+      level b (afterParagraph sheet p) (afterParagraph sheet q) (b .k) (b .j)
       (record { lines-at = b .ours .lines-at; pages-at = b .ours .pages-at; line-at = b .ours .line-at; room = b .ours .room })
       (record { lines-at = b .theirs .lines-at; pages-at = b .theirs .pages-at; line-at = b .theirs .line-at; room = b .theirs .room })
       (b .order .counts)
@@ -414,32 +415,32 @@ module _ (P : ℕ) where
       refl
 
   -- after sign 73 both count from a fresh page
-  counted-page-end : {lines pages k : ℕ} (p : Place) → Counted lines pages k (afterLineEnd P p) → p .line < P
-      → Counted (lines + k) (pages + pagesBy k) 0 (afterPageEnd P p)
+  counted-page-end : {lines pages k : ℕ} (p : Place) → Counted lines pages k (afterLineEnd sheet p) → p .line < sheet .length
+      → Counted (lines + k) (pages + pagesBy k) 0 (afterPageEnd sheet p)
   unfolding afterPage lineOf pageOf
-  counted-page-end {lines} {pages} {k} p c room = go (Moves.held-or-empty (afterLineEnd P p .line))
+  counted-page-end {lines} {pages} {k} p c room = go (Moves.held-or-empty (afterLineEnd sheet p .line))
     where
-      go : (afterLineEnd P p .line ≡ 0) ⊎ (0 < afterLineEnd P p .line) → Counted (lines + k) (pages + pagesBy k) 0 (afterPageEnd P p)
+      go : (afterLineEnd sheet p .line ≡ 0) ⊎ (0 < afterLineEnd sheet p .line) → Counted (lines + k) (pages + pagesBy k) 0 (afterPageEnd sheet p)
       go (inl e) =
           let f = pages-by-empty k (sym (c .line-at) ∙ e) in
-          rw (Moves.page-end-empty P p e) (record { lines-at = omega arith; pages-at = omega arith; line-at = e; room = c .room })
+          rw (Moves.page-end-empty sheet p e) (record { lines-at = omega arith; pages-at = omega arith; line-at = e; room = c .room })
       go (inr l) =
           let f = pages-by-lined k (omega arith) in
-          rw (Moves.page-end-lined P p l) (record { lines-at = omega arith; pages-at = omega arith; line-at = refl; room = omega arith })
+          rw (Moves.page-end-lined sheet p l) (record { lines-at = omega arith; pages-at = omega arith; line-at = refl; room = omega arith })
 
-  page-end-keeps-opening : (p : Place) → afterPageEnd P p .opening ≡ p .opening
+  page-end-keeps-opening : (p : Place) → afterPageEnd sheet p .opening ≡ p .opening
   unfolding afterPage
-  page-end-keeps-opening p = go (Moves.held-or-empty (afterLineEnd P p .line))
+  page-end-keeps-opening p = go (Moves.held-or-empty (afterLineEnd sheet p .line))
     where
-      go : (afterLineEnd P p .line ≡ 0) ⊎ (0 < afterLineEnd P p .line) → afterPageEnd P p .opening ≡ p .opening
-      go (inl e) = rw (Moves.page-end-empty P p e) (Moves.line-end-keeps-opening P p)
-      go (inr l) = rw (Moves.page-end-lined P p l) (Moves.line-end-keeps-opening P p)
+      go : (afterLineEnd sheet p .line ≡ 0) ⊎ (0 < afterLineEnd sheet p .line) → afterPageEnd sheet p .opening ≡ p .opening
+      go (inl e) = rw (Moves.page-end-empty sheet p e) (Moves.line-end-keeps-opening sheet p)
+      go (inr l) = rw (Moves.page-end-lined sheet p l) (Moves.line-end-keeps-opening sheet p)
 
-  behind-page-end : {p q : Place} → Behind p q → Behind (afterPageEnd P p) (afterPageEnd P q)
+  behind-page-end : {p q : Place} → Behind p q → Behind (afterPageEnd sheet p) (afterPageEnd sheet q)
   behind-page-end {p} {q} b₀ =
       let b = behind-line-end b₀ in
-      let z = Moves.page-end-is-fresh P p (b₀ .ours .room) .empty in
-      let z′ = Moves.page-end-is-fresh P q (b₀ .theirs .room) .empty in
+      let z = Moves.page-end-is-fresh sheet p (b₀ .ours .room) .empty in
+      let z′ = Moves.page-end-is-fresh sheet q (b₀ .theirs .room) .empty in
       let m = pages-by-more (b .k) (b .j) (b .order .counts) in
       let o = b .order .counts in
       let x = b .lines-before in
@@ -463,39 +464,38 @@ module _ (P : ℕ) where
 
   -- ---- All items, theirs with sign 70 before the chosen words
 
-  module _ (W : ℕ) where
-    record Compared (p q : Place) (items theirs : List Item) : Type 0 where
-      spots : NoLaterSpots (spotsFrom W P p items) (spotsFrom W P q theirs)
-      behind : Behind (afterItems W P p (ended items)) (afterItems W P q (ended theirs))
+  record Compared (p q : Place) (items theirs : List Item) : Type 0 where
+    spots : NoLaterSpots (spotsFrom sheet p items) (spotsFrom sheet q theirs)
+    behind : Behind (afterItems sheet p (ended items)) (afterItems sheet q (ended theirs))
 
-    compared : (choices : List Bool) (items : List Item) (p q : Place) → Behind p q → Compared p q items (withChoices choices items)
-    unfolding spotsFrom spotAfter afterItems afterItem ended withChoices
-    compared choices [] p q b = record { spots = no-word; behind = behind-page-end b }
-    compared [] (word cells ∷ items) p q b =
-        let n = behind-word W (length cells) b in
-        let r = compared [] items _ _ n in
-        record { spots = each-word (no-later-spot n) (r .spots); behind = r .behind }
-    compared (true ∷ choices) (word cells ∷ items) p q b =
-        let n = behind-word W (length cells) (behind-their-line-end b) in
-        let r = compared choices items _ _ n in
-        record { spots = each-word (no-later-spot n) (r .spots); behind = r .behind }
-    compared (false ∷ choices) (word cells ∷ items) p q b =
-        let n = behind-word W (length cells) b in
-        let r = compared choices items _ _ n in
-        record { spots = each-word (no-later-spot n) (r .spots); behind = r .behind }
-    compared choices (lineEnd ∷ items) p q b =
-        let r = compared choices items _ _ (behind-line-end b) in record { spots = r .spots; behind = r .behind }
-    compared choices (emptyLine ∷ items) p q b =
-        let r = compared choices items _ _ (behind-empty-line b) in record { spots = r .spots; behind = r .behind }
-    compared choices (paragraph ∷ items) p q b =
-        let r = compared choices items _ _ (behind-paragraph b) in record { spots = r .spots; behind = r .behind }
-    compared choices (pageEnd ∷ items) p q b =
-        let r = compared choices items _ _ (behind-page-end b) in record { spots = r .spots; behind = r .behind }
+  compared : (choices : List Bool) (items : List Item) (p q : Place) → Behind p q → Compared p q items (withChoices choices items)
+  unfolding spotsFrom spotAfter afterItems afterItem ended withChoices
+  compared choices [] p q b = record { spots = no-word; behind = behind-page-end b }
+  compared [] (word cells ∷ items) p q b =
+      let n = behind-word (length cells) b in
+      let r = compared [] items _ _ n in
+      record { spots = each-word (no-later-spot n) (r .spots); behind = r .behind }
+  compared (true ∷ choices) (word cells ∷ items) p q b =
+      let n = behind-word (length cells) (behind-their-line-end b) in
+      let r = compared choices items _ _ n in
+      record { spots = each-word (no-later-spot n) (r .spots); behind = r .behind }
+  compared (false ∷ choices) (word cells ∷ items) p q b =
+      let n = behind-word (length cells) b in
+      let r = compared choices items _ _ n in
+      record { spots = each-word (no-later-spot n) (r .spots); behind = r .behind }
+  compared choices (lineEnd ∷ items) p q b =
+      let r = compared choices items _ _ (behind-line-end b) in record { spots = r .spots; behind = r .behind }
+  compared choices (emptyLine ∷ items) p q b =
+      let r = compared choices items _ _ (behind-empty-line b) in record { spots = r .spots; behind = r .behind }
+  compared choices (paragraph ∷ items) p q b =
+      let r = compared choices items _ _ (behind-paragraph b) in record { spots = r .spots; behind = r .behind }
+  compared choices (pageEnd ∷ items) p q b =
+      let r = compared choices items _ _ (behind-page-end b) in record { spots = r .spots; behind = r .behind }
 
 -- ---- The theorem
 
-module _ (W P : ℕ) (page : 0 < P) (items : List Item) where
-  at-start : Behind P start start
+module _ (sheet : Sheet) (page : 0 < sheet .length) (items : List Item) where
+  at-start : Behind sheet start start
   unfolding lineOf pageOf
   at-start =
       record {
@@ -515,14 +515,14 @@ module _ (W P : ℕ) (page : 0 < P) (items : List Item) where
         idle′ = λ e. refl;
       }
 
-  no-later-by-choices : (choices : List Bool) → NoLater (layoutOf W P items) (layoutOf W P (withChoices choices items))
+  no-later-by-choices : (choices : List Bool) → NoLater (layoutOf sheet items) (layoutOf sheet (withChoices choices items))
   unfolding layoutOf volumeEnd
   no-later-by-choices choices =
-      let r = compared P W choices items start start at-start in
-      record { spots = r .spots; lines = no-later-spot P (r .behind) .line; pages = no-more-pages P (r .behind) }
+      let r = compared sheet choices items start start at-start in
+      record { spots = r .spots; lines = no-later-spot sheet (r .behind) .line; pages = no-more-pages sheet (r .behind) }
 
   -- for every permitted layout of the same words and format signs, ours is no later
-  pub no-later : (layout : Layout) → Permitted W P items layout → NoLater (layoutOf W P items) layout
+  pub no-later : (layout : Layout) → Permitted sheet items layout → NoLater (layoutOf sheet items) layout
   no-later layout d =
-      let c = permitted-by-choices W P page items layout d in
-      subst (λ (l : Layout). NoLater (layoutOf W P items) l) (c .same) (no-later-by-choices (c .choices))
+      let c = permitted-by-choices sheet page items layout d in
+      subst (λ (l : Layout). NoLater (layoutOf sheet items) l) (c .same) (no-later-by-choices (c .choices))

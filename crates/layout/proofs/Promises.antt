@@ -4,9 +4,10 @@ use mathlib.Core.List.{List}
 use mathlib.Core.Path.{_≡_, sym, _∙_}
 use Rattle.layout.specs.Promises.{Embossed, AnswerNumber, AnswerPlace, AnswerWritten, AnswerPieces, AnswerLines, AnswerPages}
 use Rattle.layout.specs.declared.Answer.{Answer}
+use Rattle.layout.specs.declared.Sheet.{Sheet}
 
-pub emboss-determined : {image text : List ℕ} {W P : ℕ} {before : List ℕ} {a b : Answer} {x y : List ℕ} → Embossed image text W P before a x
-    → Embossed image text W P before b y → (a ≡ b) × (x ≡ y)
+pub emboss-determined : {image text : List ℕ} {sheet : Sheet} {before : List ℕ} {a b : Answer} {x y : List ℕ} → Embossed image text sheet before a x
+    → Embossed image text sheet before b y → (a ≡ b) × (x ≡ y)
 emboss-determined p q = (p .answers ∙ sym (q .answers), p .leaves ∙ sym (q .leaves))
 
 pub number-determined : {answer : Answer} {a b : ℕ} → AnswerNumber answer a → AnswerNumber answer b → a ≡ b

@@ -36,6 +36,7 @@ use Rattle.translation.proofs.Refusals.{unknown-exactly-when, none-unknown-exac
 use Rattle.layout.specs.Numbers.{leastWidth, mostWidth, leastPage, mostPage}
 use Rattle.layout.specs.Emboss.{number, place, written, Outcome, refused, done, bytesOf, roomed, laid, sizesRight, sizesVerdict, termsOf, embossFollowed}
 use Rattle.layout.specs.Refusals.{Outside, SizesWrong, Line, of-table, line-5, line-6, line-7, line-8}
+use Rattle.layout.specs.declared.Sheet.{Sheet}
 
 -- ---- The sizes
 
@@ -51,57 +52,57 @@ not-outside : {least most n : ℕ} → Between least most n → Outside least mo
 not-outside b (inl l) = omega arith
 not-outside b (inr l) = omega arith
 
-module _ (W P : ℕ) where
-  sizes-tell : Tells (sizesRight W P) (Between leastWidth mostWidth W × Between leastPage mostPage P)
+module _ (sheet : Sheet) where
+  sizes-tell : Tells (sizesRight sheet) (Between leastWidth mostWidth (sheet .width) × Between leastPage mostPage (sheet .length))
   unfolding sizesRight
-  sizes-tell = tells-and (tells-within leastWidth mostWidth W) (tells-within leastPage mostPage P)
+  sizes-tell = tells-and (tells-within leastWidth mostWidth (sheet .width)) (tells-within leastPage mostPage (sheet .length))
 
-  sizes-wrong : sizesRight W P ≡ false → SizesWrong W P
-  sizes-wrong e = go (decided-by (tells-within leastWidth mostWidth W))
+  sizes-wrong : sizesRight sheet ≡ false → SizesWrong sheet
+  sizes-wrong e = go (decided-by (tells-within leastWidth mostWidth (sheet .width)))
     where
-      go : Dec (Between leastWidth mostWidth W) → SizesWrong W P
+      go : Dec (Between leastWidth mostWidth (sheet .width)) → SizesWrong sheet
       go (yes b) = inr (outside (λ c. fails-law sizes-tell .0 e (b, c)))
       go (no d) = inl (outside d)
 
-  pub sizes-accepted : sizesRight W P ≡ true → sizesVerdict W P ≡ Accepted
+  pub sizes-accepted : sizesRight sheet ≡ true → sizesVerdict sheet ≡ Accepted
   unfolding sizesVerdict
   sizes-accepted e = rw (e, sizesVerdict)
 
-  sizes-refused : sizesRight W P ≡ false → sizesVerdict W P ≡ NotAccepted Size
+  sizes-refused : sizesRight sheet ≡ false → sizesVerdict sheet ≡ NotAccepted Size
   unfolding sizesVerdict
   sizes-refused e = rw (e, sizesVerdict)
 
   -- sizes that are accepted are within their limits
-  pub sizes-of-accepted : sizesVerdict W P ≡ Accepted → Between leastWidth mostWidth W × Between leastPage mostPage P
-  sizes-of-accepted v = go (sizesRight W P) refl
+  pub sizes-of-accepted : sizesVerdict sheet ≡ Accepted → Between leastWidth mostWidth (sheet .width) × Between leastPage mostPage (sheet .length)
+  sizes-of-accepted v = go (sizesRight sheet) refl
     where
-      go : (b : Bool) → sizesRight W P ≡ b → Between leastWidth mostWidth W × Between leastPage mostPage P
+      go : (b : Bool) → sizesRight sheet ≡ b → Between leastWidth mostWidth (sheet .width) × Between leastPage mostPage (sheet .length)
       go true e = sizes-tell .0 e
       go false e = let n = sizes-refused e in let z : _≡_ {A = ℕ} 0 1 = cc in absurd (omega arith)
 
-  pub sizes-not-wrong : sizesRight W P ≡ true → SizesWrong W P → ⊥
+  pub sizes-not-wrong : sizesRight sheet ≡ true → SizesWrong sheet → ⊥
   sizes-not-wrong e (inl o) = not-outside (sizes-tell .0 e .0) o
   sizes-not-wrong e (inr o) = not-outside (sizes-tell .0 e .1) o
 
   -- sizes that aren't wrong are right
-  pub sizes-right : (SizesWrong W P → ⊥) → Between leastWidth mostWidth W × Between leastPage mostPage P
-  sizes-right h = go (sizesRight W P) refl
+  pub sizes-right : (SizesWrong sheet → ⊥) → Between leastWidth mostWidth (sheet .width) × Between leastPage mostPage (sheet .length)
+  sizes-right h = go (sizesRight sheet) refl
     where
-      go : (b : Bool) → sizesRight W P ≡ b → Between leastWidth mostWidth W × Between leastPage mostPage P
+      go : (b : Bool) → sizesRight sheet ≡ b → Between leastWidth mostWidth (sheet .width) × Between leastPage mostPage (sheet .length)
       go true e = sizes-tell .0 e
       go false e = absurd (h (sizes-wrong e))
 
 -- ---- The call, check by check
 
-module _ (setting : Setting) (image text : List ℕ) (W P : ℕ) (out : List ℕ) where
+module _ (setting : Setting) (image text : List ℕ) (sheet : Sheet) (out : List ℕ) where
   abbrev outcome : Outcome
-  outcome = embossFollowed setting image text W P out
+  outcome = embossFollowed setting image text sheet out
 
   abbrev Holds : ℕ → ℕ → ℕ → Type 0
-  Holds t n p = Line setting image text W P out t n p
+  Holds t n p = Line setting image text sheet out t n p
 
   abbrev bytes : List ℕ
-  bytes = bytesOf (tableOf image) setting text W P
+  bytes = bytesOf (tableOf image) setting text sheet
 
   abbrev count : ℕ
   count = length (piecesOf (tableOf image) setting text)
@@ -123,7 +124,7 @@ module _ (setting : Setting) (image text : List ℕ) (W P : ℕ) (out : List ℕ
   not-of-table : {t n p : ℕ} → tableLines < t → TableLine image t n p → ⊥
   not-of-table h x = let w = TableLaws.within-table image x in omega arith
 
-  sizes-passed : (SizesWrong W P → ⊥) → NoneBefore Holds (tableLines + 1) → NoneBefore Holds (tableLines + 2)
+  sizes-passed : (SizesWrong sheet → ⊥) → NoneBefore Holds (tableLines + 1) → NoneBefore Holds (tableLines + 2)
   sizes-passed right before = none-before-next Holds (tableLines + 1) before go
     where
       go : (n p : ℕ) → Holds (tableLines + 1) n p → ⊥
@@ -151,11 +152,11 @@ module _ (setting : Setting) (image text : List ℕ) (W P : ℕ) (out : List ℕ
   room-passed room before t n p (line-7 x) = before _ _ _ (omega arith) (line-7 x)
   room-passed room before t n p (line-8 x) = omega arith
 
-  told-room : NoneBefore Holds (tableLines + 4) → Told (laid W P out (made (piecesOf (tableOf image) setting text)))
+  told-room : NoneBefore Holds (tableLines + 4) → Told (laid sheet out (made (piecesOf (tableOf image) setting text)))
   unfolding laid roomed
   told-room before = go (leb (length bytes) (length out)) refl
     where
-      go : (b : Bool) → leb (length bytes) (length out) ≡ b → Told (laid W P out (made (piecesOf (tableOf image) setting text)))
+      go : (b : Bool) → leb (length bytes) (length out) ≡ b → Told (laid sheet out (made (piecesOf (tableOf image) setting text)))
       go true e = told-done (rw (e, laid, roomed)) (room-passed (leb-true _ _ e) before)
       go false e =
           told-refused (Room (length bytes)) (omega arith) (rw (e, laid, roomed))
@@ -163,24 +164,24 @@ module _ (setting : Setting) (image text : List ℕ) (W P : ℕ) (out : List ℕ
 
   -- a result that is refused
   told-not-made : {result : Result} (r : Refusal) → 0 < refusalNumber r → result ≡ notMade r → FirstLine Holds (refusalNumber r) (refusalPlace r)
-      → Told (laid W P out result)
+      → Told (laid sheet out result)
   unfolding laid
   told-not-made r h e f = told-refused r h (rw (e, laid)) f
 
-  told-text : NoneBefore Holds (tableLines + 2) → Told (laid W P out (translateBy (tableOf image) setting text))
+  told-text : NoneBefore Holds (tableLines + 2) → Told (laid sheet out (translateBy (tableOf image) setting text))
   told-text before = long (leb (length text) mostText) refl
     where
       unknown : length text ≤ mostText → NoneBefore Holds (tableLines + 3) → (o : Option ℕ) → firstUnknown (tableOf image .letters) text ≡ o
-          → Told (laid W P out (translateBy (tableOf image) setting text))
+          → Told (laid sheet out (translateBy (tableOf image) setting text))
       unknown short b none f =
           let n = none-unknown-exactly-when (tableOf image .letters) text .0 f in
-          subst (λ (r : Result). Told (laid W P out r)) (sym (made-by (tableOf image) setting text short f))
+          subst (λ (r : Result). Told (laid sheet out r)) (sym (made-by (tableOf image) setting text short f))
           (told-room (letters-passed (λ at x. n at (x .unknown)) b))
       unknown short b (some at) f =
           told-not-made (Unknown at) (omega arith) (unknown-at (tableOf image) setting text at short f)
           (record { turn = tableLines + 3; line = line-7 (unknown-exactly-when (tableOf image .letters) text at .0 f); none-before = b })
 
-      long : (b : Bool) → leb (length text) mostText ≡ b → Told (laid W P out (translateBy (tableOf image) setting text))
+      long : (b : Bool) → leb (length text) mostText ≡ b → Told (laid sheet out (translateBy (tableOf image) setting text))
       long true e =
           let short : length text ≤ mostText = leb-true _ _ e in
           unknown short (length-passed short before) (firstUnknown (tableOf image .letters) text) refl
@@ -188,19 +189,19 @@ module _ (setting : Setting) (image text : List ℕ) (W P : ℕ) (out : List ℕ
           told-not-made LongText (omega arith) (too-long (tableOf image) setting text (leb-false _ _ e))
           (record { turn = tableLines + 2; line = line-6 (leb-false _ _ e); none-before = before })
 
-  told-sizes : verdictOf image ≡ Accepted → Told (laid W P out (translateOn (termsOf setting W P) image text))
-  told-sizes v = go (sizesRight W P) refl
+  told-sizes : verdictOf image ≡ Accepted → Told (laid sheet out (translateOn (termsOf setting sheet) image text))
+  told-sizes v = go (sizesRight sheet) refl
     where
       before : NoneBefore Holds (tableLines + 1)
       before = table-passed (TableLaws.accepted-exactly-when image .0 v)
 
-      go : (b : Bool) → sizesRight W P ≡ b → Told (laid W P out (translateOn (termsOf setting W P) image text))
+      go : (b : Bool) → sizesRight sheet ≡ b → Told (laid sheet out (translateOn (termsOf setting sheet) image text))
       go true e =
-          subst (λ (r : Result). Told (laid W P out r)) (sym (goes-on (termsOf setting W P) image text v (sizes-accepted W P e)))
-          (told-text (sizes-passed (sizes-not-wrong W P e) before))
+          subst (λ (r : Result). Told (laid sheet out r)) (sym (goes-on (termsOf setting sheet) image text v (sizes-accepted sheet e)))
+          (told-text (sizes-passed (sizes-not-wrong sheet e) before))
       go false e =
-          told-not-made Size (omega arith) (also-refused (termsOf setting W P) image text Size v (sizes-refused W P e))
-          (record { turn = tableLines + 1; line = line-5 (sizes-wrong W P e); none-before = before })
+          told-not-made Size (omega arith) (also-refused (termsOf setting sheet) image text Size v (sizes-refused sheet e))
+          (record { turn = tableLines + 1; line = line-5 (sizes-wrong sheet e); none-before = before })
 
   -- the first line of the table is the first of all
   of-table-first : {n p : ℕ} → FirstLine (TableLine image) n p → FirstLine Holds n p
@@ -217,10 +218,10 @@ module _ (setting : Setting) (image text : List ℕ) (W P : ℕ) (out : List ℕ
   unfolding embossFollowed
   told = go (verdictOf image) refl (TableLaws.verdict-told image)
     where
-      go : (v : Verdict) → verdictOf image ≡ v → TableLaws.VerdictTold image v → Told (laid W P out (translateOn (termsOf setting W P) image text))
+      go : (v : Verdict) → verdictOf image ≡ v → TableLaws.VerdictTold image v → Told (laid sheet out (translateOn (termsOf setting sheet) image text))
       go Accepted e (TableLaws.table-accepted no-line) = told-sizes e
       go (NotAccepted r) e (TableLaws.table-refused h f) =
-          told-not-made r h (table-refused (termsOf setting W P) image text r e) (of-table-first f)
+          told-not-made r h (table-refused (termsOf setting sheet) image text r e) (of-table-first f)
 
   -- ---- A line has one number and place
 

@@ -37,18 +37,19 @@ use Rattle.layout.specs.declared.Answer.{Answer}
 use Rattle.layout.specs.declared.Answer.the-variants.{Done, Refused}
 use Rattle.layout.proofs.Refusals as Refusals-laws
 use Rattle.layout.proofs.Demands as Demands-laws
+use Rattle.layout.specs.declared.Sheet.{Sheet}
 
 -- every answer but the done one counts nothing
 untouched : (a : Answer) {before after : List ℕ} → 0 < number a → after ≡ before → Untouched before a after
 untouched (Done w n l g) h e = absurd (omega arith)
 untouched (Refused r) h e = record { bytes = e; written = refl; pieces = refl; lines = refl; pages = refl }
 
-module _ (image text : List ℕ) (W P : ℕ) (before : List ℕ) (answer : Answer) (after : List ℕ) (call : Embossed image text W P before answer after) where
+module _ (image text : List ℕ) (sheet : Sheet) (before : List ℕ) (answer : Answer) (after : List ℕ) (call : Embossed image text sheet before answer after) where
   abbrev outcome : Outcome
-  outcome = embossFollowed blankFollows image text W P before
+  outcome = embossFollowed blankFollows image text sheet before
 
   abbrev bytes : List ℕ
-  bytes = bytesOf (tableOf image) blankFollows text W P
+  bytes = bytesOf (tableOf image) blankFollows text sheet
 
   answered : answer ≡ outcome .answer
   unfolding embossing
@@ -62,29 +63,29 @@ module _ (image text : List ℕ) (W P : ℕ) (before : List ℕ) (answer : Answe
 
   -- a refusal is the answer, with its place, exactly when its line of the paper's table holds and no earlier one does
   pub call-refused-exactly-when : (n p : ℕ) → 0 < n
-      → ((number answer ≡ n) × (place answer ≡ p)) ↔ FirstLine (Line blankFollows image text W P before) n p
+      → ((number answer ≡ n) × (place answer ≡ p)) ↔ FirstLine (Line blankFollows image text sheet before) n p
   call-refused-exactly-when n p h =
-      subst (λ (a : Answer). ((number a ≡ n) × (place a ≡ p)) ↔ FirstLine (Line blankFollows image text W P before) n p) (sym answered)
-      (Refusals-laws.refused-exactly-when blankFollows image text W P before n p h)
+      subst (λ (a : Answer). ((number a ≡ n) × (place a ≡ p)) ↔ FirstLine (Line blankFollows image text sheet before) n p) (sym answered)
+      (Refusals-laws.refused-exactly-when blankFollows image text sheet before n p h)
 
   -- the call is done exactly when no line holds
-  pub call-done-exactly-when : (number answer ≡ numberDone) ↔ ((t n p : ℕ) → Line blankFollows image text W P before t n p → ⊥)
+  pub call-done-exactly-when : (number answer ≡ numberDone) ↔ ((t n p : ℕ) → Line blankFollows image text sheet before t n p → ⊥)
   call-done-exactly-when =
-      subst (λ (a : Answer). (number a ≡ numberDone) ↔ ((t n p : ℕ) → Line blankFollows image text W P before t n p → ⊥)) (sym answered)
-      (Refusals-laws.done-exactly-when blankFollows image text W P before)
+      subst (λ (a : Answer). (number a ≡ numberDone) ↔ ((t n p : ℕ) → Line blankFollows image text sheet before t n p → ⊥)) (sym answered)
+      (Refusals-laws.done-exactly-when blankFollows image text sheet before)
 
   -- a refused call changed no byte and counts nothing
   pub call-refused-untouched : 0 < number answer → Untouched before answer after
   call-refused-untouched h =
       untouched answer h
-      (left ∙ Refusals-laws.refused-keeps-output blankFollows image text W P before (subst (λ (a : Answer). 0 < number a) answered h))
+      (left ∙ Refusals-laws.refused-keeps-output blankFollows image text sheet before (subst (λ (a : Answer). 0 < number a) answered h))
 
   -- ---- A call that is done
   module _ (is-done : number answer ≡ numberDone) where
     whole : outcome ≡ done before bytes (length (textPieces image text))
-    whole = Refusals-laws.done-writes blankFollows image text W P before (sym (ap number answered) ∙ is-done)
+    whole = Refusals-laws.done-writes blankFollows image text sheet before (sym (ap number answered) ∙ is-done)
 
-    no-line : (t n p : ℕ) → Line blankFollows image text W P before t n p → ⊥
+    no-line : (t n p : ℕ) → Line blankFollows image text sheet before t n p → ⊥
     no-line = call-done-exactly-when .0 is-done
 
     -- the answer and the bytes afterwards, spelled out
@@ -110,8 +111,8 @@ module _ (image text : List ℕ) (W P : ℕ) (before : List ℕ) (answer : Answe
     table-accepted =
         accepted-exactly-when image .1 (λ t n p x. no-line t n p (of-table x))
 
-    sizes : Between leastWidth mostWidth W × Between leastPage mostPage P
-    sizes = Refusals-laws.sizes-right W P (λ x. no-line _ _ _ (line-5 x))
+    sizes : Between leastWidth mostWidth (sheet .width) × Between leastPage mostPage (sheet .length)
+    sizes = Refusals-laws.sizes-right sheet (λ x. no-line _ _ _ (line-5 x))
 
     room-for : length bytes ≤ length before
     room-for = go (decLt (length before) (length bytes))
@@ -127,7 +128,7 @@ module _ (image text : List ℕ) (W P : ℕ) (before : List ℕ) (answer : Answe
         rw is-after (omega arith)
 
     -- the table, the sizes and the room are right, and beyond the written bytes nothing changed
-    pub call-bounded : Bounded image W P before answer after
+    pub call-bounded : Bounded image sheet before answer after
     call-bounded =
         record {
           accepted = table-accepted;
@@ -146,45 +147,45 @@ module _ (image text : List ℕ) (W P : ℕ) (before : List ℕ) (answer : Answe
     call-translates =
         record {
           counted = is-pieces;
-          consumed = Demands-laws.text-consumed blankFollows image text W P (sizes .0) (sizes .1) table-accepted;
+          consumed = Demands-laws.text-consumed blankFollows image text sheet (sizes .0) (sizes .1) table-accepted;
           chosen = λ i l. first-in-order (tableOf image) blankFollows (collapsed text) i (subst (λ (n : ℕ). i < n) is-pieces l);
           start = λ l. states-start (tableOf image) blankFollows (collapsed text) (subst (λ (n : ℕ). 0 < n) is-pieces l);
           move = λ i l. states-move (tableOf image) blankFollows (collapsed text) i (subst (λ (n : ℕ). suc i < n) is-pieces l);
         }
 
-    pub call-lays-out : LaysOut image text W P answer after
+    pub call-lays-out : LaysOut image text sheet answer after
     unfolding done
     call-lays-out =
         record {
           exact = wrote-bytes;
-          right = subst (λ (b : List ℕ). All (PageRight W P) (pagesOf b)) (sym wrote-bytes) (Demands-laws.text-pages-right blankFollows image text W P (sizes .0) (sizes .1) table-accepted);
-          bytes = subst (λ (b : List ℕ). bytesOfPages (pagesOf b) ≡ b) (sym wrote-bytes) (Demands-laws.text-pages-bytes blankFollows image text W P (sizes .0) (sizes .1) table-accepted);
-          lines = ap (λ (b : List ℕ). length (flatten (pagesOf b))) wrote-bytes ∙ (Demands-laws.text-lines-counted blankFollows image text W P (sizes .0) (sizes .1) table-accepted) ∙ sym (ap lines is-answer);
-          pages = ap (λ (b : List ℕ). length (pagesOf b)) wrote-bytes ∙ (Demands-laws.text-pages-counted blankFollows image text W P (sizes .0) (sizes .1) table-accepted) ∙ sym (ap pages is-answer);
-          signs = ap (λ (b : List ℕ). only isDotted (flatten (flatten (pagesOf b)))) wrote-bytes ∙ (Demands-laws.text-has-the-signs blankFollows image text W P (sizes .0) (sizes .1) table-accepted);
+          right = subst (λ (b : List ℕ). All (PageRight sheet) (pagesOf b)) (sym wrote-bytes) (Demands-laws.text-pages-right blankFollows image text sheet (sizes .0) (sizes .1) table-accepted);
+          bytes = subst (λ (b : List ℕ). bytesOfPages (pagesOf b) ≡ b) (sym wrote-bytes) (Demands-laws.text-pages-bytes blankFollows image text sheet (sizes .0) (sizes .1) table-accepted);
+          lines = ap (λ (b : List ℕ). length (flatten (pagesOf b))) wrote-bytes ∙ (Demands-laws.text-lines-counted blankFollows image text sheet (sizes .0) (sizes .1) table-accepted) ∙ sym (ap lines is-answer);
+          pages = ap (λ (b : List ℕ). length (pagesOf b)) wrote-bytes ∙ (Demands-laws.text-pages-counted blankFollows image text sheet (sizes .0) (sizes .1) table-accepted) ∙ sym (ap pages is-answer);
+          signs = ap (λ (b : List ℕ). only isDotted (flatten (flatten (pagesOf b)))) wrote-bytes ∙ (Demands-laws.text-has-the-signs blankFollows image text sheet (sizes .0) (sizes .1) table-accepted);
         }
 
     -- ---- Demand 3
 
-    pub call-earliest : Earliest image text W P answer after
+    pub call-earliest : Earliest image text sheet answer after
     unfolding done
     call-earliest =
         record {
-          ours = layoutOf W P (textItems image text W);
+          ours = layoutOf sheet (textItems image text sheet);
           drawn =
-              subst (λ (b : List ℕ). Drawn (volumeLines b) (wordsIn (textItems image text W)) (layoutOf W P (textItems image text W) .spots)) (sym wrote-bytes)
-              (Demands-laws.text-spots blankFollows image text W P (sizes .0) (sizes .1) table-accepted);
-          lines = (Demands-laws.text-layout-lines blankFollows image text W P (sizes .0) (sizes .1) table-accepted) ∙ sym (ap lines is-answer);
-          pages = (Demands-laws.text-layout-pages blankFollows image text W P (sizes .0) (sizes .1) table-accepted) ∙ sym (ap pages is-answer);
-          permitted = (Demands-laws.text-permitted blankFollows image text W P (sizes .0) (sizes .1) table-accepted);
-          no-later = (Demands-laws.text-no-later blankFollows image text W P (sizes .0) (sizes .1) table-accepted);
+              subst (λ (b : List ℕ). Drawn (volumeLines b) (wordsIn (textItems image text sheet)) (layoutOf sheet (textItems image text sheet) .spots)) (sym wrote-bytes)
+              (Demands-laws.text-spots blankFollows image text sheet (sizes .0) (sizes .1) table-accepted);
+          lines = (Demands-laws.text-layout-lines blankFollows image text sheet (sizes .0) (sizes .1) table-accepted) ∙ sym (ap lines is-answer);
+          pages = (Demands-laws.text-layout-pages blankFollows image text sheet (sizes .0) (sizes .1) table-accepted) ∙ sym (ap pages is-answer);
+          permitted = (Demands-laws.text-permitted blankFollows image text sheet (sizes .0) (sizes .1) table-accepted);
+          no-later = (Demands-laws.text-no-later blankFollows image text sheet (sizes .0) (sizes .1) table-accepted);
         }
 
 -- the written bytes lie within the bytes afterwards, refused or done
-pub call-written : {image text : List ℕ} {W P : ℕ} {before : List ℕ} {answer : Answer} {after : List ℕ} → Embossed image text W P before answer after
+pub call-written : {image text : List ℕ} {sheet : Sheet} {before : List ℕ} {answer : Answer} {after : List ℕ} → Embossed image text sheet before answer after
     → written answer ≤ length after
-call-written {image} {text} {W} {P} {before} {answer} {after} call = go (decLt 0 (number answer))
+call-written {image} {text} {sheet} {before} {answer} {after} call = go (decLt 0 (number answer))
   where
     go : Dec (0 < number answer) → written answer ≤ length after
-    go (yes h) = let w = call-refused-untouched image text W P before answer after call h .written in omega arith
-    go (no d) = written-within image text W P before answer after call (omega arith)
+    go (yes h) = let w = call-refused-untouched image text sheet before answer after call h .written in omega arith
+    go (no d) = written-within image text sheet before answer after call (omega arith)

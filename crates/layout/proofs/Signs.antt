@@ -20,8 +20,9 @@ use Rattle.layout.specs.Fitting.{Dotted, WordFits, Fitting, wordsIn}
 use Rattle.layout.specs.Signs.{isDotted, endsWord, staysInWord}
 use Rattle.layout.proofs.Lists.{flatten-append, only-append, only-all, only-none, only-same}
 use Rattle.layout.proofs.Kept.{Kept, volume-keeps}
-use Rattle.layout.proofs.Sheet.{pages-have-the-bytes}
+use Rattle.layout.proofs.Volume.{pages-have-the-bytes}
 use Rattle.layout.proofs.Words.{format-signs, no-format, items-fit, items-join}
+use Rattle.layout.specs.declared.Sheet.{Sheet}
 
 -- ---- What a move writes
 
@@ -36,9 +37,9 @@ dots-after blanks {w} fits =
     let all = only-all isDotted (all-weaker dotted (fits .dotted)) in
     rw (only-append isDotted (replicate blanks blankCell) w, none, all)
 
-dots-kept : (W P : ℕ) → Kept W P (λ bytes words spots p. only isDotted bytes ≡ flatten words)
+dots-kept : (sheet : Sheet) → Kept sheet (λ bytes words spots p. only isDotted bytes ≡ flatten words)
 unfolding only isDotted flatten
-dots-kept W P =
+dots-kept sheet =
     record {
       cells = λ bytes words spots p blanks w fits h r.
           rw (only-append isDotted bytes (cellsAfter blanks w), dots-after blanks fits, flatten-append words (w ∷ []), append-nil, r);
@@ -61,16 +62,16 @@ dots-of-pages (page ∷ pages) = rw (only-append, flatten-append, only-append, d
 
 -- ---- The volume
 
-module _ (W P : ℕ) (items : List Item) (fits : Fitting W items) (room : 0 < P) where
+module _ (sheet : Sheet) (items : List Item) (fits : Fitting (sheet .width) items) (room : 0 < sheet .length) where
   -- the output bytes 1 to 63, all but 0, 64 and 65, are the cells of the words, in order
-  pub bytes-have-the-words : only isDotted (volume W P items) ≡ flatten (wordsIn items)
+  pub bytes-have-the-words : only isDotted (volume sheet items) ≡ flatten (wordsIn items)
   unfolding only flatten
-  bytes-have-the-words = volume-keeps W P _ (dots-kept W P) items fits room refl
+  bytes-have-the-words = volume-keeps sheet _ (dots-kept sheet) items fits room refl
 
   -- so are the cells of the pages that aren't blank
-  pub cells-are-the-words : only isDotted (flatten (flatten (pagesOf (volume W P items)))) ≡ flatten (wordsIn items)
+  pub cells-are-the-words : only isDotted (flatten (flatten (pagesOf (volume sheet items)))) ≡ flatten (wordsIn items)
   cells-are-the-words =
-      rw (← (dots-of-pages (pagesOf (volume W P items))), pages-have-the-bytes W P items fits room) bytes-have-the-words
+      rw (← (dots-of-pages (pagesOf (volume sheet items))), pages-have-the-bytes sheet items fits room) bytes-have-the-words
 
 -- of printed signs, those that end no word are 1 to 63
 signs-dotted : (g : ℕ) → PrintedSign g → staysInWord g ≡ isDotted g
@@ -84,9 +85,9 @@ signs-dotted g (format l m) =
     rw (ne-eqb g blankCell (λ e. omega arith), format-signs g l m, le-leb 1 g (omega arith), lt-leb g mostCell (omega arith))
 
 -- the cells of the pages that aren't blank are the signs 1 to 63, in order
-pub volume-has-the-signs : (W P : ℕ) (signs : List ℕ) → ((i : ℕ) → i < length signs → PrintedSign (getD signs i 0)) → 1 ≤ W → 0 < P
-    → only isDotted (flatten (flatten (pagesOf (volume W P (itemsOf W signs))))) ≡ only isDotted signs
-volume-has-the-signs W P signs printed wide room =
-    cells-are-the-words W P (itemsOf W signs) (items-fit wide signs printed) room
-    ∙ items-join W signs
+pub volume-has-the-signs : (sheet : Sheet) (signs : List ℕ) → ((i : ℕ) → i < length signs → PrintedSign (getD signs i 0)) → 1 ≤ sheet .width → 0 < sheet .length
+    → only isDotted (flatten (flatten (pagesOf (volume sheet (itemsOf (sheet .width) signs))))) ≡ only isDotted signs
+volume-has-the-signs sheet signs printed wide room =
+    cells-are-the-words sheet (itemsOf (sheet .width) signs) (items-fit wide signs printed) room
+    ∙ items-join (sheet .width) signs
     ∙ only-same staysInWord (all-weaker signs-dotted (all-of-places signs 0 printed))

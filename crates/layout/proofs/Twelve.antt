@@ -13,6 +13,7 @@ use Rattle.translation.specs.Translate.{blankFollows}
 use Rattle.layout.specs.Words.{Item, word, itemsOf}
 use Rattle.layout.specs.Permitted.{Permitted}
 use Rattle.layout.specs.Emboss.{Outcome, embossing, number, place, written, pieces, lines, pages}
+use Rattle.layout.specs.declared.Sheet.{Sheet}
 use Rattle.layout.specs.Computing.{computing}
 use Rattle.layout.proofs.Permitted.{choices-permitted}
 
@@ -35,6 +36,10 @@ Shown = ℕ × ℕ × ℕ × ℕ × ℕ × ℕ × List ℕ
 shown : Outcome → Shown
 shown c = let a = c .answer in (number a, place a, written a, pieces a, lines a, pages a, c .output)
 
+-- W 8 and P 2
+abbrev small : Sheet
+small = record { width = 8; length = 2 }
+
 -- the output as lent: some room, filled with a byte that no output has
 abbrev room : ℕ
 room = 24
@@ -43,7 +48,7 @@ lent : ℕ → List ℕ
 lent n = replicate n 200
 
 embossed : Row → Shown
-embossed r = shown (embossing image (ascii (r .text)) 8 2 (lent room))
+embossed r = shown (embossing image (ascii (r .text)) small (lent room))
 
 expected : Row → Shown
 expected r = (0, 0, length (r .output), r .pieces, r .lines, r .pages, r .output ++ lent (room - length (r .output)))
@@ -101,7 +106,7 @@ unfolding computing four-and-three
 four-and-three-items = refl
 
 two-lines-permitted :
-    Permitted 8 2 four-and-three
+    Permitted small four-and-three
     (record { spots = record { line = 0; column = 4 } ∷ record { line = 1; column = 3 } ∷ []; lines = 2; pages = 1 })
 unfolding computing four-and-three
-two-lines-permitted = choices-permitted 8 2 (omega arith) four-and-three (false ∷ true ∷ [])
+two-lines-permitted = choices-permitted small (omega arith) four-and-three (false ∷ true ∷ [])

@@ -26,36 +26,37 @@ use Rattle.layout.specs.Writing.{Filled, Fillable}
 use Rattle.layout.specs.declared.Answer.{Answer}
 use Rattle.layout.specs.declared.Answer.the-variants.{Refused}
 use Rattle.layout.proofs.Refusals.{sizes-of-accepted}
+use Rattle.layout.specs.declared.Sheet.{Sheet}
 
-module _ (image text : List ℕ) (W P : ℕ) (out lent : List ℕ) where
+module _ (image text : List ℕ) (sheet : Sheet) (out lent : List ℕ) where
   abbrev result : Result
-  result = translateOn (termsOf blankFollows W P) image text
+  result = translateOn (termsOf blankFollows sheet) image text
 
   -- what a translation's answer makes of the call
   abbrev pub Case : Translation → List ℕ → Type 0
-  Case (t.Refused r) signs = Embossed image text W P out (Refused r) out
+  Case (t.Refused r) signs = Embossed image text sheet out (Refused r) out
   Case (t.Done n k) signs =
-      (k ≤ length signs) × Fillable W P (take k signs)
-      × ((a : Answer) (after : List ℕ) → Filled (volume W P (itemsOf W (take k signs))) n out after a → Embossed image text W P out a after)
+      (k ≤ length signs) × Fillable sheet (take k signs)
+      × ((a : Answer) (after : List ℕ) → Filled (volume sheet (itemsOf (sheet .width) (take k signs))) n out after a → Embossed image text sheet out a after)
 
-  embossed-as : {o : Outcome} → laid W P out result ≡ o → Embossed image text W P out (o .answer) (o .output)
+  embossed-as : {o : Outcome} → laid sheet out result ≡ o → Embossed image text sheet out (o .answer) (o .output)
   unfolding embossing embossFollowed
   embossed-as e = record { answers = sym (ap (λ (o : Outcome). o .answer) e); leaves = sym (ap (λ (o : Outcome). o .output) e) }
 
   -- the signs of the pieces have no more than four for each character, and can be laid out
-  fillable : {ps : List Piece} → result ≡ made ps → Fillable W P (signsOf ps)
+  fillable : {ps : List Piece} → result ≡ made ps → Fillable sheet (signsOf ps)
   unfolding piecesOf
   fillable e =
-      let m = made-means (termsOf blankFollows W P) image text e in
+      let m = made-means (termsOf blankFollows sheet) image text e in
       let sound = accepted-sound image (m .accepted) in
-      let size = sizes-of-accepted W P (m .allowed) in
+      let size = sizes-of-accepted sheet (m .allowed) in
       let w = size .0 in
       let p = size .1 in
       let four = signs-at-most (tableOf image) sound blankFollows (collapsed text) in
       let one = pieces-at-most (tableOf image) blankFollows (collapsed text) in
       let less = collapsed-at-most text in
       let short = m .short in
-      subst (λ (l : List Piece). Fillable W P (signsOf l)) (sym (m .pieces))
+      subst (λ (l : List Piece). Fillable sheet (signsOf l)) (sym (m .pieces))
       (record {
         most = omega arith;
         wide = omega arith;
@@ -72,17 +73,17 @@ module _ (image text : List ℕ) (W P : ℕ) (out lent : List ℕ) where
       let front : take (length (signsOf ps)) signs ≡ signsOf ps = take-append-seam (signsOf ps) (drop (length (signsOf ps)) lent) in
       let n = length-append (signsOf ps) (drop (length (signsOf ps)) lent) in (
         omega arith,
-        subst (Fillable W P) (sym front) (fillable e),
+        subst (Fillable sheet) (sym front) (fillable e),
         λ a after x.
-            let same = ap (λ (s : List ℕ). roomed out (volume W P (itemsOf W s)) (length ps)) front in
-            let embossed = embossed-as {o = roomed out (volume W P (itemsOf W (signsOf ps))) (length ps)} (rw (e, laid)) in
+            let same = ap (λ (s : List ℕ). roomed out (volume sheet (itemsOf (sheet .width) s)) (length ps)) front in
+            let embossed = embossed-as {o = roomed out (volume sheet (itemsOf (sheet .width) (signsOf ps))) (length ps)} (rw (e, laid)) in
             record {
               answers = x .answered ∙ ap (λ (o : Outcome). o .answer) same ∙ embossed .answers;
               leaves = x .written ∙ ap (λ (o : Outcome). o .output) same ∙ embossed .leaves;
             },
       )
 
-  pub whole-translated : {also : Verdict} {signs : List ℕ} {answer told : Translation} → also ≡ sizesVerdict W P → Translated image text also lent answer signs
+  pub whole-translated : {also : Verdict} {signs : List ℕ} {answer told : Translation} → also ≡ sizesVerdict sheet → Translated image text also lent answer signs
       → answer ≡ told → Case told signs
   unfolding translation
   whole-translated {also} {signs} {answer} {told} sizes x e =

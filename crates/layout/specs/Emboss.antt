@@ -1,4 +1,4 @@
--- 'What comes back': the answer with its six values, and the whole call, from the image, the text, W, P and the output as lent to the answer and the
+-- 'What comes back': the answer with its six values, and the whole call, from the image, the text, the sheet and the output as lent to the answer and the
 -- output afterwards.
 use Prim.Native.Nat.{ℕ}
 use mathlib.Core.Bool.{Bool, true, false, cond, _&&_}
@@ -23,6 +23,7 @@ use Rattle.layout.specs.Place.{volume}
 use Rattle.layout.specs.Pages.{count}
 use Rattle.layout.specs.declared.Answer.{Answer}
 use Rattle.layout.specs.declared.Answer.the-variants.{Done, Refused}
+use Rattle.layout.specs.declared.Sheet.{Sheet}
 
 -- ---- The six values: when refused, all but number and place are 0
 
@@ -68,36 +69,36 @@ done out bytes n =
 -- ---- The call
 
 -- the bytes of signs, and of a text
-unfoldable pub bytesOfSigns : ℕ → ℕ → List ℕ → List ℕ
-bytesOfSigns W P signs = volume W P (itemsOf W signs)
+unfoldable pub bytesOfSigns : Sheet → List ℕ → List ℕ
+bytesOfSigns sheet signs = volume sheet (itemsOf (sheet .width) signs)
 
-abbrev pub bytesOf : Table → Setting → List ℕ → ℕ → ℕ → List ℕ
-bytesOf table setting text W P = bytesOfSigns W P (signsOf (piecesOf table setting text))
+abbrev pub bytesOf : Table → Setting → List ℕ → Sheet → List ℕ
+bytesOf table setting text sheet = bytesOfSigns sheet (signsOf (piecesOf table setting text))
 
 -- 8: output too short
 unfoldable pub roomed : List ℕ → List ℕ → ℕ → Outcome
 roomed out bytes n = elim (leb (length bytes) (length out)) [ true ↦ done out bytes n | false ↦ refused out (Room (length bytes)) ]
 
 -- the pieces of a text are laid out, and a refusal is handed on
-unfoldable pub laid : ℕ → ℕ → List ℕ → Result → Outcome
-laid W P out (made pieces) = roomed out (bytesOfSigns W P (signsOf pieces)) (length pieces)
-laid W P out (notMade r) = refused out r
+unfoldable pub laid : Sheet → List ℕ → Result → Outcome
+laid sheet out (made pieces) = roomed out (bytesOfSigns sheet (signsOf pieces)) (length pieces)
+laid sheet out (notMade r) = refused out r
 
 -- W and P within their limits
-unfoldable pub sizesRight : ℕ → ℕ → Bool
-sizesRight W P = within leastWidth mostWidth W && within leastPage mostPage P
+unfoldable pub sizesRight : Sheet → Bool
+sizesRight sheet = within leastWidth mostWidth (sheet .width) && within leastPage mostPage (sheet .length)
 
 -- 5: W or P outside its limits
-unfoldable pub sizesVerdict : ℕ → ℕ → Verdict
-sizesVerdict W P = cond (sizesRight W P) Accepted (NotAccepted Size)
+unfoldable pub sizesVerdict : Sheet → Verdict
+sizesVerdict sheet = cond (sizesRight sheet) Accepted (NotAccepted Size)
 
 -- what follows the end of the text is said by the caller; the sizes are checked after the table and before the text
-abbrev pub termsOf : Setting → ℕ → ℕ → Terms
-termsOf setting W P = record { setting = setting; also = sizesVerdict W P }
+abbrev pub termsOf : Setting → Sheet → Terms
+termsOf setting sheet = record { setting = setting; also = sizesVerdict sheet }
 
-unfoldable pub embossFollowed : Setting → List ℕ → List ℕ → ℕ → ℕ → List ℕ → Outcome
-embossFollowed setting image text W P out = laid W P out (translateOn (termsOf setting W P) image text)
+unfoldable pub embossFollowed : Setting → List ℕ → List ℕ → Sheet → List ℕ → Outcome
+embossFollowed setting image text sheet out = laid sheet out (translateOn (termsOf setting sheet) image text)
 
 -- the call of the base: past the end of text stands the blank
-unfoldable pub embossing : List ℕ → List ℕ → ℕ → ℕ → List ℕ → Outcome
-embossing image text W P out = embossFollowed blankFollows image text W P out
+unfoldable pub embossing : List ℕ → List ℕ → Sheet → List ℕ → Outcome
+embossing image text sheet out = embossFollowed blankFollows image text sheet out

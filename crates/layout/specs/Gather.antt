@@ -12,6 +12,7 @@ use Rattle.layout.specs.Words.{formatOf, gathered, cut}
 use Rattle.layout.specs.Place.{afterWord, wordBytes, afterItem, itemBytes, afterItems, itemsBytes, ended}
 use Rattle.layout.specs.declared.Gathering.{Gathering}
 use Rattle.layout.specs.declared.Place.{Place}
+use Rattle.layout.specs.declared.Sheet.{Sheet}
 
 -- no number of the place is over `m`, which is far from the largest that a machine word holds
 pub record Modest (m : ℕ) (p : Place) : Type 0 where
@@ -22,42 +23,42 @@ pub record Modest (m : ℕ) (p : Place) : Type 0 where
   pub pages-most : p .pages ≤ m
 
 -- the `n` cells that are gathered are placed, if there are any
-unfoldable pub afterFlush : ℕ → ℕ → Place → ℕ → Place
-afterFlush W P p n = cond (ltb 0 n) (afterWord W P p n) p
+unfoldable pub afterFlush : Sheet → Place → ℕ → Place
+afterFlush sheet p n = cond (ltb 0 n) (afterWord sheet p n) p
 
-unfoldable pub flushBytes : ℕ → ℕ → Place → List ℕ → List ℕ
-flushBytes W P p cells = cond (ltb 0 (length cells)) (wordBytes W P p cells) []
+unfoldable pub flushBytes : Sheet → Place → List ℕ → List ℕ
+flushBytes sheet p cells = cond (ltb 0 (length cells)) (wordBytes sheet p cells) []
 
 -- a format sign
-unfoldable pub afterFormat : ℕ → ℕ → Place → ℕ → Place
-afterFormat W P p g = elim (formatOf g) [ none ↦ p | some format ↦ afterItem W P p format ]
+unfoldable pub afterFormat : Sheet → Place → ℕ → Place
+afterFormat sheet p g = elim (formatOf g) [ none ↦ p | some format ↦ afterItem sheet p format ]
 
-unfoldable pub formatBytes : ℕ → ℕ → Place → ℕ → List ℕ
-formatBytes W P p g = elim (formatOf g) [ none ↦ [] | some format ↦ itemBytes W P p format ]
+unfoldable pub formatBytes : Sheet → Place → ℕ → List ℕ
+formatBytes sheet p g = elim (formatOf g) [ none ↦ [] | some format ↦ itemBytes sheet p format ]
 
 -- ---- One sign: a blank or a format sign places the cells that wait; a cell waits with them, until they are W
 
-unfoldable pub stepped : ℕ → ℕ → Place → ℕ → ℕ → Gathering
-stepped W P p n g =
-    cond (eqb g blankCell) (record { place = afterFlush W P p n; cells = 0 })
-    (cond (isThere (formatOf g)) (record { place = afterFormat W P (afterFlush W P p n) g; cells = 0 })
-    (cond (eqb (n + 1) W) (record { place = afterWord W P p (n + 1); cells = 0 }) (record { place = p; cells = n + 1 })))
+unfoldable pub stepped : Sheet → Place → ℕ → ℕ → Gathering
+stepped sheet p n g =
+    cond (eqb g blankCell) (record { place = afterFlush sheet p n; cells = 0 })
+    (cond (isThere (formatOf g)) (record { place = afterFormat sheet (afterFlush sheet p n) g; cells = 0 })
+    (cond (eqb (n + 1) (sheet .width)) (record { place = afterWord sheet p (n + 1); cells = 0 }) (record { place = p; cells = n + 1 })))
 
 -- the cells that wait then
-unfoldable pub waiting : ℕ → List ℕ → ℕ → List ℕ
-waiting W cells g = cond (eqb g blankCell || isThere (formatOf g)) [] (cond (eqb (length cells + 1) W) [] (cells ++ g ∷ []))
+unfoldable pub waiting : Sheet → List ℕ → ℕ → List ℕ
+waiting sheet cells g = cond (eqb g blankCell || isThere (formatOf g)) [] (cond (eqb (length cells + 1) (sheet .width)) [] (cells ++ g ∷ []))
 
 -- what is written for the sign
-unfoldable pub stepBytes : ℕ → ℕ → Place → List ℕ → ℕ → List ℕ
-stepBytes W P p cells g =
-    cond (eqb g blankCell) (flushBytes W P p cells)
-    (cond (isThere (formatOf g)) (flushBytes W P p cells ++ formatBytes W P (afterFlush W P p (length cells)) g)
-    (cond (eqb (length cells + 1) W) (wordBytes W P p (cells ++ g ∷ [])) []))
+unfoldable pub stepBytes : Sheet → Place → List ℕ → ℕ → List ℕ
+stepBytes sheet p cells g =
+    cond (eqb g blankCell) (flushBytes sheet p cells)
+    (cond (isThere (formatOf g)) (flushBytes sheet p cells ++ formatBytes sheet (afterFlush sheet p (length cells)) g)
+    (cond (eqb (length cells + 1) (sheet .width)) (wordBytes sheet p (cells ++ g ∷ [])) []))
 
 -- ---- All that is left: from a place, the cells that wait and the signs that follow, to the end of the text
 
-unfoldable pub afterRest : ℕ → ℕ → Place → List ℕ → List ℕ → Place
-afterRest W P p cells signs = afterItems W P p (ended (cut W (gathered cells signs)))
+unfoldable pub afterRest : Sheet → Place → List ℕ → List ℕ → Place
+afterRest sheet p cells signs = afterItems sheet p (ended (cut (sheet .width) (gathered cells signs)))
 
-unfoldable pub restBytes : ℕ → ℕ → Place → List ℕ → List ℕ → List ℕ
-restBytes W P p cells signs = itemsBytes W P p (ended (cut W (gathered cells signs)))
+unfoldable pub restBytes : Sheet → Place → List ℕ → List ℕ → List ℕ
+restBytes sheet p cells signs = itemsBytes sheet p (ended (cut (sheet .width) (gathered cells signs)))

@@ -5,11 +5,12 @@ use mathlib.Core.List.{List}
 use mathlib.Core.Path.{_≡_}
 use Rattle.layout.specs.Emboss.{number, place, written, pieces, lines, pages, embossing}
 use Rattle.layout.specs.declared.Answer.{Answer}
+use Rattle.layout.specs.declared.Sheet.{Sheet}
 
 -- `emboss`: the answer of the definitions, and their output in the bytes that were lent
-pub record Embossed (image text : List ℕ) (W P : ℕ) (before : List ℕ) (answer : Answer) (after : List ℕ) : Type 0 where
-  pub answers : answer ≡ embossing image text W P before .answer
-  pub leaves : after ≡ embossing image text W P before .output
+pub record Embossed (image text : List ℕ) (sheet : Sheet) (before : List ℕ) (answer : Answer) (after : List ℕ) : Type 0 where
+  pub answers : answer ≡ embossing image text sheet before .answer
+  pub leaves : after ≡ embossing image text sheet before .output
 
 -- `Answer::number`, `place`, `written`, `pieces`, `lines`, `pages`: the six values
 pub record AnswerNumber (a : Answer) (value : ℕ) : Type 0 where

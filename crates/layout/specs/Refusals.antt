@@ -11,29 +11,30 @@ use Rattle.translation.specs.Refusals.{TextTooLong, FirstUnknownAt}
 use Rattle.translation.specs.declared.Setting.{Setting}
 use Rattle.layout.specs.Numbers.{leastWidth, mostWidth, leastPage, mostPage}
 use Rattle.layout.specs.Emboss.{bytesOf}
+use Rattle.layout.specs.declared.Sheet.{Sheet}
 
 -- outside the limits
 abbrev pub Outside : ℕ → ℕ → ℕ → Type 0
 Outside least most n = (n < least) ⊎ (most < n)
 
 -- W or P outside its limits
-abbrev pub SizesWrong : ℕ → ℕ → Type 0
-SizesWrong W P = Outside leastWidth mostWidth W ⊎ Outside leastPage mostPage P
+abbrev pub SizesWrong : Sheet → Type 0
+SizesWrong sheet = Outside leastWidth mostWidth (sheet .width) ⊎ Outside leastPage mostPage (sheet .length)
 
 -- the bytes that the output needs
-abbrev pub needed : Setting → List ℕ → List ℕ → ℕ → ℕ → ℕ
-needed setting image text W P = length (bytesOf (tableOf image) setting text W P)
+abbrev pub needed : Setting → List ℕ → List ℕ → Sheet → ℕ
+needed setting image text sheet = length (bytesOf (tableOf image) setting text sheet)
 
 -- a line of the paper's table holds: the turn in which it is checked, its number and its place
-pub data Line (setting : Setting) (image text : List ℕ) (W P : ℕ) (out : List ℕ) : ℕ → ℕ → ℕ → Type 0 where
+pub data Line (setting : Setting) (image text : List ℕ) (sheet : Sheet) (out : List ℕ) : ℕ → ℕ → ℕ → Type 0 where
   -- the lines of the table come first
-  of-table : {t n p : ℕ} → TableLine image t n p → Line setting image text W P out t n p
+  of-table : {t n p : ℕ} → TableLine image t n p → Line setting image text sheet out t n p
   -- W or P outside its limits
-  line-5 : SizesWrong W P → Line setting image text W P out (tableLines + 1) numberSize noPlace
+  line-5 : SizesWrong sheet → Line setting image text sheet out (tableLines + 1) numberSize noPlace
   -- text over 16,384 bytes
-  line-6 : TextTooLong text → Line setting image text W P out (tableLines + 2) numberLongText mostText
+  line-6 : TextTooLong text → Line setting image text sheet out (tableLines + 2) numberLongText mostText
   -- character without alphabet record: offset of the first one in the text as lent
-  line-7 : {at : ℕ} → FirstUnknownAt (tableOf image .letters) text at → Line setting image text W P out (tableLines + 3) numberUnknown at
+  line-7 : {at : ℕ} → FirstUnknownAt (tableOf image .letters) text at → Line setting image text sheet out (tableLines + 3) numberUnknown at
   -- output too short: bytes needed
-  line-8 : length out < needed setting image text W P
-      → Line setting image text W P out (tableLines + 4) numberRoom (needed setting image text W P)
+  line-8 : length out < needed setting image text sheet
+      → Line setting image text sheet out (tableLines + 4) numberRoom (needed setting image text sheet)

@@ -27,6 +27,7 @@ use Rattle.layout.specs.Signs.{isDotted}
 use Rattle.layout.specs.Drawn.{volumeLines, Drawn}
 use Rattle.layout.specs.Emboss.{written, pieces, lines, pages, bytesOf}
 use Rattle.layout.specs.declared.Answer.{Answer}
+use Rattle.layout.specs.declared.Sheet.{Sheet}
 
 -- the bytes that the call wrote, read back out of the bytes afterwards
 abbrev pub wrote : Answer → List ℕ → List ℕ
@@ -36,8 +37,8 @@ wrote answer after = take (written answer) after
 abbrev pub textPieces : List ℕ → List ℕ → List Piece
 textPieces image text = piecesOf (tableOf image) blankFollows text
 
-abbrev pub textItems : List ℕ → List ℕ → ℕ → List Item
-textItems image text W = itemsOf W (signsOf (textPieces image text))
+abbrev pub textItems : List ℕ → List ℕ → Sheet → List Item
+textItems image text sheet = itemsOf (sheet .width) (signsOf (textPieces image text))
 
 -- demand 1: the call changed no byte, and has nothing to count
 pub record Untouched (before : List ℕ) (answer : Answer) (after : List ℕ) : Type 0 where
@@ -48,10 +49,10 @@ pub record Untouched (before : List ℕ) (answer : Answer) (after : List ℕ) : 
   pub pages : pages answer ≡ 0
 
 -- demand 1: the table, the sizes and the room are right, and beyond the written bytes nothing changed
-pub record Bounded (image : List ℕ) (W P : ℕ) (before : List ℕ) (answer : Answer) (after : List ℕ) : Type 0 where
+pub record Bounded (image : List ℕ) (sheet : Sheet) (before : List ℕ) (answer : Answer) (after : List ℕ) : Type 0 where
   pub accepted : verdictOf image ≡ Accepted
-  pub width : Between leastWidth mostWidth W
-  pub page : Between leastPage mostPage P
+  pub width : Between leastWidth mostWidth (sheet .width)
+  pub page : Between leastPage mostPage (sheet .length)
   pub room : written answer ≤ length before
   pub beyond : drop (written answer) after ≡ drop (written answer) before
 
@@ -67,19 +68,19 @@ pub record Translates (image text : List ℕ) (answer : Answer) : Type 0 where
       ≡ moved (tableOf image) (piece (textPieces image text) i .class) (piece (textPieces image text) i .states)
 
 -- demand 2: the written bytes are those of the rules, and read back as pages they keep every rule of lines and pages
-pub record LaysOut (image text : List ℕ) (W P : ℕ) (answer : Answer) (after : List ℕ) : Type 0 where
-  pub exact : wrote answer after ≡ bytesOf (tableOf image) blankFollows text W P
-  pub right : All (PageRight W P) (pagesOf (wrote answer after))
+pub record LaysOut (image text : List ℕ) (sheet : Sheet) (answer : Answer) (after : List ℕ) : Type 0 where
+  pub exact : wrote answer after ≡ bytesOf (tableOf image) blankFollows text sheet
+  pub right : All (PageRight sheet) (pagesOf (wrote answer after))
   pub bytes : bytesOfPages (pagesOf (wrote answer after)) ≡ wrote answer after
   pub lines : length (flatten (pagesOf (wrote answer after))) ≡ lines answer
   pub pages : length (pagesOf (wrote answer after)) ≡ pages answer
   pub signs : only isDotted (flatten (flatten (pagesOf (wrote answer after)))) ≡ only isDotted (signsOf (textPieces image text))
 
 -- demand 3: the layout that the written bytes draw is permitted; no permitted layout has a word earlier, fewer lines or fewer pages
-pub record Earliest (image text : List ℕ) (W P : ℕ) (answer : Answer) (after : List ℕ) : Type 0 where
+pub record Earliest (image text : List ℕ) (sheet : Sheet) (answer : Answer) (after : List ℕ) : Type 0 where
   pub ours : Layout
-  pub drawn : Drawn (volumeLines (wrote answer after)) (wordsIn (textItems image text W)) (ours .spots)
+  pub drawn : Drawn (volumeLines (wrote answer after)) (wordsIn (textItems image text sheet)) (ours .spots)
   pub lines : ours .lines ≡ lines answer
   pub pages : ours .pages ≡ pages answer
-  pub permitted : Permitted W P (textItems image text W) ours
-  pub no-later : (other : Layout) → Permitted W P (textItems image text W) other → NoLater ours other
+  pub permitted : Permitted sheet (textItems image text sheet) ours
+  pub no-later : (other : Layout) → Permitted sheet (textItems image text sheet) other → NoLater ours other

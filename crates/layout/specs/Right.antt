@@ -8,6 +8,7 @@ use Rattle.table.specs.Numbers.{blankCell}
 use Rattle.table.specs.Cells.{mostCell}
 use Rattle.table.specs.Lists.{All}
 use Rattle.layout.specs.Pages.{Line, Page}
+use Rattle.layout.specs.declared.Sheet.{Sheet}
 
 abbrev pub IsCell : ℕ → Type 0
 IsCell c = c ≤ mostCell
@@ -17,7 +18,7 @@ pub record LineRight (W : ℕ) (line : Line) : Type 0 where
   pub cells : All IsCell line
   pub no-trailing-blank : (front : Line) → line ≡ front ++ blankCell ∷ [] → ⊥
 
-pub record PageRight (W P : ℕ) (page : Page) : Type 0 where
+pub record PageRight (sheet : Sheet) (page : Page) : Type 0 where
   pub least : 1 ≤ length page
-  pub most : length page ≤ P
-  pub lines : All (LineRight W) page
+  pub most : length page ≤ sheet .length
+  pub lines : All (LineRight (sheet .width)) page

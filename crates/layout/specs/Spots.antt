@@ -9,6 +9,7 @@ use Rattle.layout.specs.Words.{Item, word, lineEnd, emptyLine, paragraph
 use Rattle.layout.specs.Place.{start, afterItem, volumeEnd}
 use Rattle.layout.specs.Permitted.{Spot, Layout}
 use Rattle.layout.specs.declared.Place.{Place}
+use Rattle.layout.specs.declared.Sheet.{Sheet}
 
 -- where the word that was placed last ends
 abbrev pub spot : Place → Spot
@@ -23,14 +24,14 @@ spotAfter q paragraph = []
 spotAfter q pageEnd = []
 
 -- where each word ends, from a place on
-unfoldable pub spotsFrom : ℕ → ℕ → Place → List Item → List Spot
-spotsFrom W P p [] = []
-spotsFrom W P p (item ∷ items) = let q = afterItem W P p item in spotAfter q item ++ spotsFrom W P q items
+unfoldable pub spotsFrom : Sheet → Place → List Item → List Spot
+spotsFrom sheet p [] = []
+spotsFrom sheet p (item ∷ items) = let q = afterItem sheet p item in spotAfter q item ++ spotsFrom sheet q items
 
 -- our layout
-unfoldable pub layoutOf : ℕ → ℕ → List Item → Layout
-layoutOf W P items =
-    record { spots = spotsFrom W P start items; lines = volumeEnd W P items .lines; pages = volumeEnd W P items .pages }
+unfoldable pub layoutOf : Sheet → List Item → Layout
+layoutOf sheet items =
+    record { spots = spotsFrom sheet start items; lines = volumeEnd sheet items .lines; pages = volumeEnd sheet items .pages }
 
 -- how many words there are
 unfoldable pub wordCount : List Item → ℕ
@@ -55,10 +56,10 @@ withChoices choices (paragraph ∷ items) = paragraph ∷ withChoices choices it
 withChoices choices (pageEnd ∷ items) = pageEnd ∷ withChoices choices items
 
 -- a layout that arises from choices, one for each word
-pub record ByChoices (W P : ℕ) (items : List Item) (layout : Layout) : Type 0 where
+pub record ByChoices (sheet : Sheet) (items : List Item) (layout : Layout) : Type 0 where
   pub choices : List Bool
   pub one-each : length choices ≡ wordCount items
-  pub same : layoutOf W P (withChoices choices items) ≡ layout
+  pub same : layoutOf sheet (withChoices choices items) ≡ layout
 
 -- ---- No later: the words of one layout against those of another
 

@@ -12,6 +12,7 @@ use Rattle.layout.specs.Gather.{Modest, stepped, waiting, stepBytes}
 use Rattle.layout.specs.declared.Answer.{Answer}
 use Rattle.layout.specs.declared.Gathering.{Gathering}
 use Rattle.layout.specs.declared.Place.{Place}
+use Rattle.layout.specs.declared.Sheet.{Sheet}
 
 -- `bytes` are written from `at` on
 pub record Put (before : List ℕ) (at : ℕ) (bytes after : List ℕ) : Type 0 where
@@ -27,17 +28,17 @@ pub record Room (m : ℕ) (out : List ℕ) (p : Place) (bytes : List ℕ) : Type
   pub room : p .written + length bytes ≤ length out
 
 -- one sign: the moved place with the cells that wait, the bytes written, and the cells that wait in front of the buffer
-pub record Signed (W P : ℕ) (before : List ℕ) (p : Place) (word : List ℕ) (n g : ℕ) (after word′ : List ℕ) (answer : Gathering) : Type 0 where
-  pub place : answer ≡ stepped W P p n g
-  pub page : after ≡ sets before (p .written) (stepBytes W P p (take n word) g)
-  pub waits : take (answer .cells) word′ ≡ waiting W (take n word) g
+pub record Signed (sheet : Sheet) (before : List ℕ) (p : Place) (word : List ℕ) (n g : ℕ) (after word′ : List ℕ) (answer : Gathering) : Type 0 where
+  pub place : answer ≡ stepped sheet p n g
+  pub page : after ≡ sets before (p .written) (stepBytes sheet p (take n word) g)
+  pub waits : take (answer .cells) word′ ≡ waiting sheet (take n word) g
 
 -- signs that can be laid out: not too many, printed, within the sizes
-pub record Fillable (W P : ℕ) (signs : List ℕ) : Type 0 where
+pub record Fillable (sheet : Sheet) (signs : List ℕ) : Type 0 where
   pub most : length signs ≤ entrySigns * mostText
-  pub wide : 1 ≤ W
-  pub narrow : W ≤ mostWidth
-  pub page : 0 < P
+  pub wide : 1 ≤ sheet .width
+  pub narrow : sheet .width ≤ mostWidth
+  pub page : 0 < sheet .length
   pub printed : (i : ℕ) → i < length signs → PrintedSign (getD signs i 0)
 
 -- the answer and the output afterwards, for the bytes of a text of `n` pieces

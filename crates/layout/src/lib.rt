@@ -11,6 +11,12 @@ mod writing;
 pub use embossing::emboss;
 use table::Refusal;
 
+// A sheet: how many cells a line holds, and how many lines a page.
+pub struct Sheet {
+    pub width: usize,
+    pub length: usize,
+}
+
 // A place on the page: the cells of the line that is being filled, the lines that the page has, whether the next word opens a paragraph,
 // and what has been written so far, in bytes, lines and pages.
 pub struct Place {

@@ -11,6 +11,7 @@ ghost use Rattle.layout.specs.Place.{volumeEnd};
 ghost use Rattle.layout.specs.Gather.{Modest, afterFlush, afterFormat, stepped};
 use crate::Gathering;
 use crate::Place;
+use crate::Sheet;
 
 // Whether a sign is one of the format signs.
 pub(crate) fn is_format(g: u8) -> bool
@@ -20,42 +21,42 @@ pub(crate) fn is_format(g: u8) -> bool
 }
 
 // The cells that wait are placed, if there are any.
-pub(crate) fn flush(p: Place, width: usize, page: usize, n: usize) -> Place
+pub(crate) fn flush(p: Place, sheet: Sheet, n: usize) -> Place
     requires { ⌜ (Modest (2 ^ 32) p) × (n < 2 ^ 32) ⌝ }
-    ensures { λ r. ⌜ r ≡ afterFlush width page p n ⌝ }
+    ensures { λ r. ⌜ r ≡ afterFlush sheet p n ⌝ }
 {
-    if 0 < n { p.word(width, page, n) } else { p }
+    if 0 < n { p.word(sheet, n) } else { p }
 }
 
 // A format sign.
-pub(crate) fn format(p: Place, width: usize, page: usize, g: u8) -> Place
+pub(crate) fn format(p: Place, sheet: Sheet, g: u8) -> Place
     requires { ⌜ Modest (2 ^ 32) p ⌝ }
-    ensures { λ r. ⌜ r ≡ afterFormat width page p g ⌝ }
+    ensures { λ r. ⌜ r ≡ afterFormat sheet p g ⌝ }
 {
     match g {
-        70 => p.line_end(page),
-        71 => p.empty_line(page),
-        72 => p.paragraph(page),
-        73 => p.page_end(page),
+        70 => p.line_end(sheet),
+        71 => p.empty_line(sheet),
+        72 => p.paragraph(sheet),
+        73 => p.page_end(sheet),
         _ => p,
     }
 }
 
 // One sign.
-fn step(p: Place, n: usize, g: u8, width: usize, page: usize) -> Gathering
+fn step(p: Place, n: usize, g: u8, sheet: Sheet) -> Gathering
     requires { ⌜ (Modest (2 ^ 31) p) × (n ≤ mostWidth) ⌝ }
-    ensures { λ r. ⌜ r ≡ stepped width page p n g ⌝ }
+    ensures { λ r. ⌜ r ≡ stepped sheet p n g ⌝ }
 {
     if g == 0 {
-        let q = flush(p, width, page, n);
+        let q = flush(p, sheet, n);
         return Gathering { place: q, cells: 0 };
     }
     if is_format(g) {
-        let q = format(flush(p, width, page, n), width, page, g);
+        let q = format(flush(p, sheet, n), sheet, g);
         return Gathering { place: q, cells: 0 };
     }
-    if n + 1 == width {
-        let q = p.word(width, page, n + 1);
+    if n + 1 == sheet.width {
+        let q = p.word(sheet, n + 1);
         return Gathering { place: q, cells: 0 };
     }
     Gathering {
@@ -65,18 +66,18 @@ fn step(p: Place, n: usize, g: u8, width: usize, page: usize) -> Gathering
 }
 
 // The place at the end of the text, for the signs of a text.
-pub(crate) fn measure(signs: &[u8], width: usize, page: usize) -> Place
-    requires { ⌜ (length (now signs) ≤ entrySigns * mostText) × (1 ≤ width) × (width ≤ mostWidth) ⌝ }
-    ensures { λ r. ⌜ r ≡ volumeEnd width page (itemsOf width (now (signs .entry))) ⌝ }
+pub(crate) fn measure(signs: &[u8], sheet: Sheet) -> Place
+    requires { ⌜ (length (now signs) ≤ entrySigns * mostText) × (1 ≤ sheet .width) × (sheet .width ≤ mostWidth) ⌝ }
+    ensures { λ r. ⌜ r ≡ volumeEnd sheet (itemsOf (sheet .width) (now (signs .entry))) ⌝ }
 {
     let mut p = Place::first();
     let mut n = 0;
     let mut i = 0;
     while i < signs.len() {
-        let s = step(p, n, signs[i], width, page);
+        let s = step(p, n, signs[i], sheet);
         p = s.place;
         n = s.cells;
         i += 1;
     }
-    flush(p, width, page, n).page_end(page)
+    flush(p, sheet, n).page_end(sheet)
 }

@@ -5,6 +5,7 @@ ghost use Prim.Native.Nat.{_<_, _^_};
 ghost use Rattle.layout.specs.Place.{start, afterLine, afterLineEnd, afterEmptyLine, afterParagraph, afterPageEnd, openingBlanks, afterCells, afterWord};
 ghost use Rattle.layout.specs.Gather.{Modest};
 use crate::Place;
+use crate::Sheet;
 
 impl Place {
     // The place where a volume starts.
@@ -21,12 +22,12 @@ impl Place {
         }
     }
 
-    // The line ends, whatever it holds; the page ends by itself after `page` lines.
-    pub(crate) fn line_done(self, page: usize) -> Place
+    // The line ends, whatever it holds; the page ends by itself after P lines.
+    pub(crate) fn line_done(self, sheet: Sheet) -> Place
         requires { ⌜ Modest (2 ^ 33) self ⌝ }
-        ensures { λ r. ⌜ r ≡ afterLine page self ⌝ }
+        ensures { λ r. ⌜ r ≡ afterLine sheet self ⌝ }
     {
-        if self.line + 1 == page {
+        if self.line + 1 == sheet.length {
             Place {
                 column: 0,
                 line: 0,
@@ -48,12 +49,12 @@ impl Place {
     }
 
     // Sign 70: the line ends if it holds a cell.
-    pub(crate) fn line_end(self, page: usize) -> Place
+    pub(crate) fn line_end(self, sheet: Sheet) -> Place
         requires { ⌜ Modest (2 ^ 33) self ⌝ }
-        ensures { λ r. ⌜ r ≡ afterLineEnd page self ⌝ }
+        ensures { λ r. ⌜ r ≡ afterLineEnd sheet self ⌝ }
     {
         if 0 < self.column {
-            self.line_done(page)
+            self.line_done(sheet)
         } else {
             self
         }
@@ -75,11 +76,11 @@ impl Place {
     }
 
     // The blanks before a word of `n` cells on an empty line.
-    pub(crate) fn opening_blanks(self, width: usize, n: usize) -> usize
+    pub(crate) fn opening_blanks(self, sheet: Sheet, n: usize) -> usize
         requires { ⌜ n < 2 ^ 32 ⌝ }
-        ensures { λ r. ⌜ r ≡ openingBlanks width self n ⌝ }
+        ensures { λ r. ⌜ r ≡ openingBlanks sheet self n ⌝ }
     {
-        if self.opening & (2 + n <= width) {
+        if self.opening & (2 + n <= sheet.width) {
             2
         } else {
             0
@@ -87,39 +88,39 @@ impl Place {
     }
 
     // A word of `n` cells: on a line with cells it joins if it fits, otherwise the line ends and it starts the next.
-    pub(crate) fn word(self, width: usize, page: usize, n: usize) -> Place
+    pub(crate) fn word(self, sheet: Sheet, n: usize) -> Place
         requires { ⌜ (Modest (2 ^ 32) self) × (n < 2 ^ 32) ⌝ }
-        ensures { λ r. ⌜ r ≡ afterWord width page self n ⌝ }
+        ensures { λ r. ⌜ r ≡ afterWord sheet self n ⌝ }
     {
         if self.column == 0 {
-            return self.cells(self.opening_blanks(width, n), n);
+            return self.cells(self.opening_blanks(sheet, n), n);
         }
-        if self.column + 1 + n <= width {
+        if self.column + 1 + n <= sheet.width {
             return self.cells(1, n);
         }
-        let next = self.line_done(page);
-        next.cells(next.opening_blanks(width, n), n)
+        let next = self.line_done(sheet);
+        next.cells(next.opening_blanks(sheet, n), n)
     }
 
     // Sign 71: as 70, then an empty line unless the page has no line yet.
-    pub(crate) fn empty_line(self, page: usize) -> Place
+    pub(crate) fn empty_line(self, sheet: Sheet) -> Place
         requires { ⌜ Modest (2 ^ 32) self ⌝ }
-        ensures { λ r. ⌜ r ≡ afterEmptyLine page self ⌝ }
+        ensures { λ r. ⌜ r ≡ afterEmptyLine sheet self ⌝ }
     {
-        let ended = self.line_end(page);
+        let ended = self.line_end(sheet);
         if 0 < ended.line {
-            ended.line_done(page)
+            ended.line_done(sheet)
         } else {
             ended
         }
     }
 
     // Sign 72: as 70, and the next word opens a paragraph.
-    pub(crate) fn paragraph(self, page: usize) -> Place
+    pub(crate) fn paragraph(self, sheet: Sheet) -> Place
         requires { ⌜ Modest (2 ^ 32) self ⌝ }
-        ensures { λ r. ⌜ r ≡ afterParagraph page self ⌝ }
+        ensures { λ r. ⌜ r ≡ afterParagraph sheet self ⌝ }
     {
-        let ended = self.line_end(page);
+        let ended = self.line_end(sheet);
         Place {
             column: ended.column,
             line: ended.line,
@@ -131,11 +132,11 @@ impl Place {
     }
 
     // Sign 73, and the end of the text: as 70, then the page ends if it has a line.
-    pub(crate) fn page_end(self, page: usize) -> Place
+    pub(crate) fn page_end(self, sheet: Sheet) -> Place
         requires { ⌜ Modest (2 ^ 32) self ⌝ }
-        ensures { λ r. ⌜ r ≡ afterPageEnd page self ⌝ }
+        ensures { λ r. ⌜ r ≡ afterPageEnd sheet self ⌝ }
     {
-        let ended = self.line_end(page);
+        let ended = self.line_end(sheet);
         if 0 < ended.line {
             Place {
                 column: 0,

@@ -11,6 +11,7 @@ ghost use Rattle.layout.specs.Gather.{afterFlush, flushBytes, afterForma
 ghost use Rattle.layout.specs.Writing.{Put, Moved, Room, Signed};
 use crate::Gathering;
 use crate::Place;
+use crate::Sheet;
 use crate::measuring::is_format;
 
 // A run of blanks from `at` on.
@@ -47,87 +48,87 @@ fn put_cells(out: &mut [u8], at: usize, blanks: usize, cells: &[u8])
 }
 
 // The line ends, whatever it holds.
-fn put_line(out: &mut [u8], p: Place, page: usize) -> Place
-    requires { ⌜ Room (2 ^ 33) (now out) p (lineBytes page p) ⌝ }
-    ensures { λ r. ⌜ Moved (now (out .entry)) p (lineBytes page p) (now (out .exit)) (afterLine page p) r ⌝ }
+fn put_line(out: &mut [u8], p: Place, sheet: Sheet) -> Place
+    requires { ⌜ Room (2 ^ 33) (now out) p (lineBytes sheet p) ⌝ }
+    ensures { λ r. ⌜ Moved (now (out .entry)) p (lineBytes sheet p) (now (out .exit)) (afterLine sheet p) r ⌝ }
 {
     let at = p.written;
-    if p.line + 1 == page {
+    if p.line + 1 == sheet.length {
         out[at] = 64;
         out[at + 1] = 65;
-        return p.line_done(page);
+        return p.line_done(sheet);
     }
     out[at] = 64;
-    p.line_done(page)
+    p.line_done(sheet)
 }
 
 // Sign 70: the line ends if it holds a cell.
-fn put_line_end(out: &mut [u8], p: Place, page: usize) -> Place
-    requires { ⌜ Room (2 ^ 33) (now out) p (lineEndBytes page p) ⌝ }
-    ensures { λ r. ⌜ Moved (now (out .entry)) p (lineEndBytes page p) (now (out .exit)) (afterLineEnd page p) r ⌝ }
+fn put_line_end(out: &mut [u8], p: Place, sheet: Sheet) -> Place
+    requires { ⌜ Room (2 ^ 33) (now out) p (lineEndBytes sheet p) ⌝ }
+    ensures { λ r. ⌜ Moved (now (out .entry)) p (lineEndBytes sheet p) (now (out .exit)) (afterLineEnd sheet p) r ⌝ }
 {
     if 0 < p.column {
-        return put_line(out, p, page);
+        return put_line(out, p, sheet);
     }
     p
 }
 
 // Sign 71: as 70, then an empty line unless the page has no line yet.
-fn put_empty_line(out: &mut [u8], p: Place, page: usize) -> Place
-    requires { ⌜ Room (2 ^ 32) (now out) p (emptyLineBytes page p) ⌝ }
-    ensures { λ r. ⌜ Moved (now (out .entry)) p (emptyLineBytes page p) (now (out .exit)) (afterEmptyLine page p) r ⌝ }
+fn put_empty_line(out: &mut [u8], p: Place, sheet: Sheet) -> Place
+    requires { ⌜ Room (2 ^ 32) (now out) p (emptyLineBytes sheet p) ⌝ }
+    ensures { λ r. ⌜ Moved (now (out .entry)) p (emptyLineBytes sheet p) (now (out .exit)) (afterEmptyLine sheet p) r ⌝ }
 {
-    let ended = put_line_end(out, p, page);
+    let ended = put_line_end(out, p, sheet);
     if 0 < ended.line {
-        return put_line(out, ended, page);
+        return put_line(out, ended, sheet);
     }
     ended
 }
 
 // Sign 73, and the end of the text: as 70, then the page ends if it has a line.
-fn put_page_end(out: &mut [u8], p: Place, page: usize) -> Place
-    requires { ⌜ Room (2 ^ 32) (now out) p (pageEndBytes page p) ⌝ }
-    ensures { λ r. ⌜ Moved (now (out .entry)) p (pageEndBytes page p) (now (out .exit)) (afterPageEnd page p) r ⌝ }
+fn put_page_end(out: &mut [u8], p: Place, sheet: Sheet) -> Place
+    requires { ⌜ Room (2 ^ 32) (now out) p (pageEndBytes sheet p) ⌝ }
+    ensures { λ r. ⌜ Moved (now (out .entry)) p (pageEndBytes sheet p) (now (out .exit)) (afterPageEnd sheet p) r ⌝ }
 {
-    let ended = put_line_end(out, p, page);
+    let ended = put_line_end(out, p, sheet);
     if 0 < ended.line {
         let at = ended.written;
         out[at] = 65;
-        return p.page_end(page);
+        return p.page_end(sheet);
     }
     ended
 }
 
 // A word: on a line with cells it joins if it fits, otherwise the line ends and it starts the next.
-fn put_word(out: &mut [u8], p: Place, cells: &[u8], width: usize, page: usize) -> Place
-    requires { ⌜ (Room (2 ^ 32) (now out) p (wordBytes width page p (now cells))) × (length (now cells) ≤ mostWidth) ⌝ }
-    ensures { λ r. ⌜ Moved (now (out .entry)) p (wordBytes width page p (now (cells .entry))) (now (out .exit)) (afterWord width page p (length (now (cells .entry)))) r ⌝ }
+fn put_word(out: &mut [u8], p: Place, cells: &[u8], sheet: Sheet) -> Place
+    requires { ⌜ (Room (2 ^ 32) (now out) p (wordBytes sheet p (now cells))) × (length (now cells) ≤ mostWidth) ⌝ }
+    ensures { λ r. ⌜ Moved (now (out .entry)) p (wordBytes sheet p (now (cells .entry))) (now (out .exit)) (afterWord sheet p (length (now (cells .entry)))) r ⌝ }
 {
     let n = cells.len();
     if p.column == 0 {
-        let blanks = p.opening_blanks(width, n);
+        let blanks = p.opening_blanks(sheet, n);
         let at = p.written;
         put_cells(out, at, blanks, cells);
         return p.cells(blanks, n);
     }
-    if p.column + 1 + n <= width {
+    if p.column + 1 + n <= sheet.width {
         let at = p.written;
         put_cells(out, at, 1, cells);
         return p.cells(1, n);
     }
-    let next = put_line(out, p, page);
-    let blanks = next.opening_blanks(width, n);
+    let next = put_line(out, p, sheet);
+    let blanks = next.opening_blanks(sheet, n);
     let at = next.written;
     put_cells(out, at, blanks, cells);
     next.cells(blanks, n)
 }
 
 // Sign 72: as 70, and the next word opens a paragraph.
-fn put_paragraph(out: &mut [u8], p: Place, page: usize) -> Place
-    requires { ⌜ Room (2 ^ 32) (now out) p (paragraphBytes page p) ⌝ }
-    ensures { λ r. ⌜ Moved (now (out .entry)) p (paragraphBytes page p) (now (out .exit)) (afterParagraph page p) r ⌝ }
+fn put_paragraph(out: &mut [u8], p: Place, sheet: Sheet) -> Place
+    requires { ⌜ Room (2 ^ 32) (now out) p (paragraphBytes sheet p) ⌝ }
+    ensures { λ r. ⌜ Moved (now (out .entry)) p (paragraphBytes sheet p) (now (out .exit)) (afterParagraph sheet p) r ⌝ }
 {
-    let ended = put_line_end(out, p, page);
+    let ended = put_line_end(out, p, sheet);
     Place {
         column: ended.column,
         line: ended.line,
@@ -139,82 +140,74 @@ fn put_paragraph(out: &mut [u8], p: Place, page: usize) -> Place
 }
 
 // The cells that wait are placed, if there are any.
-fn put_flush(out: &mut [u8], p: Place, cells: &[u8], width: usize, page: usize) -> Place
-    requires { ⌜ (Room (2 ^ 32) (now out) p (flushBytes width page p (now cells))) × (length (now cells) ≤ mostWidth) ⌝ }
-    ensures { λ r. ⌜ Moved (now (out .entry)) p (flushBytes width page p (now (cells .entry))) (now (out .exit)) (afterFlush width page p (length (now (cells .entry)))) r ⌝ }
+fn put_flush(out: &mut [u8], p: Place, cells: &[u8], sheet: Sheet) -> Place
+    requires { ⌜ (Room (2 ^ 32) (now out) p (flushBytes sheet p (now cells))) × (length (now cells) ≤ mostWidth) ⌝ }
+    ensures { λ r. ⌜ Moved (now (out .entry)) p (flushBytes sheet p (now (cells .entry))) (now (out .exit)) (afterFlush sheet p (length (now (cells .entry)))) r ⌝ }
 {
     if 0 < cells.len() {
-        return put_word(out, p, cells, width, page);
+        return put_word(out, p, cells, sheet);
     }
     p
 }
 
 // A format sign.
-fn put_format(out: &mut [u8], p: Place, g: u8, width: usize, page: usize) -> Place
-    requires { ⌜ Room (2 ^ 32) (now out) p (formatBytes width page p g) ⌝ }
-    ensures { λ r. ⌜ Moved (now (out .entry)) p (formatBytes width page p g) (now (out .exit)) (afterFormat width page p g) r ⌝ }
+fn put_format(out: &mut [u8], p: Place, g: u8, sheet: Sheet) -> Place
+    requires { ⌜ Room (2 ^ 32) (now out) p (formatBytes sheet p g) ⌝ }
+    ensures { λ r. ⌜ Moved (now (out .entry)) p (formatBytes sheet p g) (now (out .exit)) (afterFormat sheet p g) r ⌝ }
 {
     if g == 70 {
-        return put_line_end(out, p, page);
+        return put_line_end(out, p, sheet);
     }
     if g == 71 {
-        return put_empty_line(out, p, page);
+        return put_empty_line(out, p, sheet);
     }
     if g == 72 {
-        return put_paragraph(out, p, page);
+        return put_paragraph(out, p, sheet);
     }
     if g == 73 {
-        return put_page_end(out, p, page);
+        return put_page_end(out, p, sheet);
     }
     p
 }
 
 // One sign: a blank or a format sign places the cells that wait in front of `word`; a cell waits with them, until they are as many as the width.
-fn put_sign(
-    out: &mut [u8],
-    p: Place,
-    word: &mut [u8],
-    n: usize,
-    g: u8,
-    width: usize,
-    page: usize,
-) -> Gathering
-    requires { ⌜ (Room (2 ^ 31) (now out) p (stepBytes width page p (take n (now word)) g)) × (n < width) × (width ≤ mostWidth) × (width ≤ length (now word)) ⌝ }
-    ensures { λ r. ⌜ Signed width page (now (out .entry)) p (now (word .entry)) n g (now (out .exit)) (now (word .exit)) r ⌝ }
+fn put_sign(out: &mut [u8], p: Place, word: &mut [u8], n: usize, g: u8, sheet: Sheet) -> Gathering
+    requires { ⌜ (Room (2 ^ 31) (now out) p (stepBytes sheet p (take n (now word)) g)) × (n < sheet .width) × (sheet .width ≤ mostWidth) × (sheet .width ≤ length (now word)) ⌝ }
+    ensures { λ r. ⌜ Signed sheet (now (out .entry)) p (now (word .entry)) n g (now (out .exit)) (now (word .exit)) r ⌝ }
 {
     if g == 0 {
-        let q = put_flush(out, p, &word[..n], width, page);
+        let q = put_flush(out, p, &word[..n], sheet);
         return Gathering { place: q, cells: 0 };
     }
     if is_format(g) {
-        let q = put_flush(out, p, &word[..n], width, page);
-        let r = put_format(out, q, g, width, page);
+        let q = put_flush(out, p, &word[..n], sheet);
+        let r = put_format(out, q, g, sheet);
         return Gathering { place: r, cells: 0 };
     }
     word[n] = g;
     let m = n + 1;
-    if m == width {
-        let q = put_word(out, p, &word[..m], width, page);
+    if m == sheet.width {
+        let q = put_word(out, p, &word[..m], sheet);
         return Gathering { place: q, cells: 0 };
     }
     Gathering { place: p, cells: m }
 }
 
 // All signs of a text are written, and the end of the text.
-pub(crate) fn write(signs: &[u8], width: usize, page: usize, out: &mut [u8])
-    requires { ⌜ (length (now signs) ≤ entrySigns * mostText) × (1 ≤ width) × (width ≤ mostWidth) × (length (volume width page (itemsOf width (now signs))) ≤ length (now out)) ⌝ }
-    ensures { λ _. ⌜ Put (now (out .entry)) 0 (volume width page (itemsOf width (now (signs .entry)))) (now (out .exit)) ⌝ }
+pub(crate) fn write(signs: &[u8], sheet: Sheet, out: &mut [u8])
+    requires { ⌜ (length (now signs) ≤ entrySigns * mostText) × (1 ≤ sheet .width) × (sheet .width ≤ mostWidth) × (length (volume sheet (itemsOf (sheet .width) (now signs))) ≤ length (now out)) ⌝ }
+    ensures { λ _. ⌜ Put (now (out .entry)) 0 (volume sheet (itemsOf (sheet .width) (now (signs .entry)))) (now (out .exit)) ⌝ }
 {
     let mut word = [0u8; 60];
     let mut p = Place::first();
     let mut n = 0;
     let mut i = 0;
     while i < signs.len() {
-        let s = put_sign(out, p, &mut word, n, signs[i], width, page);
+        let s = put_sign(out, p, &mut word, n, signs[i], sheet);
         p = s.place;
         n = s.cells;
         i += 1;
     }
-    let q = put_flush(out, p, &word[..n], width, page);
-    put_page_end(out, q, page);
+    let q = put_flush(out, p, &word[..n], sheet);
+    put_page_end(out, q, sheet);
 }

@@ -2,6 +2,7 @@
 // address, never null, and its length; bytes that are lent as `out` or `answer` are lent as nothing else in the same call.
 
 ghost use Rattle.press.specs.Promises.{Pressed};
+use layout::Sheet;
 use layout::emboss;
 
 // Embosses a text, and stores the answer's six values: number, place, bytes written, pieces, lines, pages. A refused call changes no byte of `out`, and a
@@ -11,13 +12,21 @@ pub extern "C" fn tlopahuexi_emboss(
     image: &[u8],
     text: &[u8],
     width: usize,
-    page: usize,
+    length: usize,
     out: &mut [u8],
     answer: &mut [u64; 6],
 )
-    ensures { λ _. ⌜ Pressed (now (image .entry)) (now (text .entry)) width page (now (out .entry)) (now (out .exit)) (now (answer .exit)) ⌝ }
+    ensures { λ _. ⌜ Pressed (now (image .entry)) (now (text .entry)) width length (now (out .entry)) (now (out .exit)) (now (answer .exit)) ⌝ }
 {
-    let a = emboss(image, text, width, page, out);
+    let a = emboss(
+        image,
+        text,
+        Sheet {
+            width: width,
+            length: length,
+        },
+        out,
+    );
     *answer = [
         a.number() as u64,
         a.place() as u64,

@@ -29,6 +29,9 @@ slice-aggregate-answered c = sym (length-take-le _ _ (search needs))
 slice-aggregate-answered-2 : tie.Need-slice-aggregate-answered-2
 slice-aggregate-answered-2 c = search needs
 
+sheet-requires : tie.Need-sheet-requires
+sheet-requires c κs = search needs
+
 answered-requires : tie.Need-answered-requires
 answered-requires c κs = search needs
 
@@ -46,6 +49,9 @@ slice-aggregate-answered-3 c = sym (length-take-le _ _ (search needs))
 
 slice-aggregate-answered-4 : tie.Need-slice-aggregate-answered-4
 slice-aggregate-answered-4 c = search needs
+
+sheet-requires-2 : tie.Need-sheet-requires-2
+sheet-requires-2 c κs = search needs
 
 answered-requires-2 : tie.Need-answered-requires-2
 answered-requires-2 c κs = search needs
@@ -65,6 +71,9 @@ slice-aggregate-answered-5 c = sym (length-take-le _ _ (search needs))
 slice-aggregate-answered-6 : tie.Need-slice-aggregate-answered-6
 slice-aggregate-answered-6 c = search needs
 
+sheet-requires-3 : tie.Need-sheet-requires-3
+sheet-requires-3 c κs = search needs
+
 answered-requires-3 : tie.Need-answered-requires-3
 answered-requires-3 c κs = search needs
 
@@ -83,17 +92,20 @@ main-spec =
     array-share-prefix-image-2
     slice-aggregate-answered
     slice-aggregate-answered-2
+    sheet-requires
     answered-requires
     array-write-image-2
     array-write-image-3
     array-share-prefix-image-3
     slice-aggregate-answered-3
     slice-aggregate-answered-4
+    sheet-requires-2
     answered-requires-2
     array-write-image-4
     array-write-image-5
     array-share-prefix-image-4
     slice-aggregate-answered-5
     slice-aggregate-answered-6
+    sheet-requires-3
     answered-requires-3
     returns)

@@ -21,8 +21,8 @@ emboss-requires c κs = search needs
 number-requires : tie.Need-number-requires
 number-requires c κs = search needs
 
-cast-t11 : tie.Need-cast-t11
-cast-t11 c = search needs
+cast-t12 : tie.Need-cast-t12
+cast-t12 c = search needs
 
 place-requires : tie.Need-place-requires
 place-requires c κs = search needs
@@ -61,7 +61,7 @@ tlopahuexi-emboss-spec =
     (tie.spec
     emboss-requires
     number-requires
-    cast-t11
+    cast-t12
     place-requires
     written-requires
     pieces-requires

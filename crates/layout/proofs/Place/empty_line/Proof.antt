@@ -15,21 +15,21 @@ line-end-requires c κs = search needs
 line-done-requires : tie.Need-line-done-requires
 line-done-requires c κs =
     let a = c .before .before .before .args in
-    rw (c .before .before .line-end .ensures) (Moves.modest-more (omega arith) (Moves.modest-line-end (a .page) (2 ^ 32) (a .self) (c .before .before .before .pre)))
+    rw (c .before .before .line-end .ensures) (Moves.modest-more (omega arith) (Moves.modest-line-end (a .sheet) (2 ^ 32) (a .self) (c .before .before .before .pre)))
 
 returns : tie.Need-returns
 returns c =
     let a = c .before .before .before .before .args in
     let e = c .before .before .before .line-end .ensures in
-    let l : 0 < afterLineEnd (a .page) (a .self) .line = rw (← e) (c .before .if1 .taken) in
-    c .line-done .ensures ∙ ap (λ (p : Place). afterLine (a .page) p) e ∙ sym (Moves.empty-line-below (a .page) (a .self) l)
+    let l : 0 < afterLineEnd (a .sheet) (a .self) .line = rw (← e) (c .before .if1 .taken) in
+    c .line-done .ensures ∙ ap (λ (p : Place). afterLine (a .sheet) p) e ∙ sym (Moves.empty-line-below (a .sheet) (a .self) l)
 
 returns-2 : tie.Need-returns-2
 returns-2 c =
     let a = c .before .before .before .args in
     let e = c .before .before .line-end .ensures in
-    let l : afterLineEnd (a .page) (a .self) .line ≡ 0 = rw (← e) (omega arith) in
-    e ∙ sym (Moves.empty-line-at-top (a .page) (a .self) l)
+    let l : afterLineEnd (a .sheet) (a .self) .line ≡ 0 = rw (← e) (omega arith) in
+    e ∙ sym (Moves.empty-line-at-top (a .sheet) (a .self) l)
 
 pub empty-line-spec : {M : Type 1} → statement M
 empty-line-spec = tie.close (tie.spec line-end-requires line-done-requires returns returns-2)

@@ -31,14 +31,14 @@ add-t11 c = search needs
 
 returns : tie.Need-returns
 returns c =
-    let a = c .before .before .before .before .before .args in
-    sym (Moves.line-fills (a .page) (a .self) (c .before .before .before .if1 .taken))
+    let a = c .before .before .before .before .before .before .args in
+    sym (Moves.line-fills (a .sheet) (a .self) (c .before .before .before .if1 .taken))
 
 returns-2 : tie.Need-returns-2
 unfolding afterLine fillsPage
 returns-2 c =
-    let a = c .before .before .before .before .before .args in
-    rw (ne-eqb (a .self .line + 1) (a .page) (c .before .before .before .if1 .left))
+    let a = c .before .before .before .before .before .before .args in
+    rw (ne-eqb (a .self .line + 1) (a .sheet .length) (c .before .before .before .if1 .left))
 
 pub line-done-spec : {M : Type 1} → statement M
 line-done-spec =

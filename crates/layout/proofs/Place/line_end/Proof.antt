@@ -12,12 +12,12 @@ line-done-requires c κs = search needs
 returns : tie.Need-returns
 returns c =
     let a = c .before .before .before .args in
-    c .line-done .ensures ∙ sym (Moves.line-end-held (a .page) (a .self) (c .before .if1 .taken))
+    c .line-done .ensures ∙ sym (Moves.line-end-held (a .sheet) (a .self) (c .before .if1 .taken))
 
 returns-2 : tie.Need-returns-2
 returns-2 c =
     let a = c .before .before .args in
-    sym (Moves.line-end-empty (a .page) (a .self) (omega arith))
+    sym (Moves.line-end-empty (a .sheet) (a .self) (omega arith))
 
 pub line-end-spec : {M : Type 1} → statement M
 line-end-spec = tie.close (tie.spec line-done-requires returns returns-2)

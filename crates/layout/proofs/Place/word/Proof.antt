@@ -15,7 +15,7 @@ opening-blanks-requires c κs = search needs
 cells-requires : tie.Need-cells-requires
 cells-requires c κs =
     let a = c .before .before .before .args in
-    let o = Moves.opening-at-most (a .width) (a .self) (a .n) in
+    let o = Moves.opening-at-most (a .sheet) (a .self) (a .n) in
     let e = c .opening-blanks .ensures in
     (Moves.modest-more (omega arith) (c .before .before .before .pre .0), omega arith, c .before .before .before .pre .1)
 
@@ -23,7 +23,7 @@ returns : tie.Need-returns
 returns c =
     let a = c .before .before .before .before .args in
     c .cells .ensures ∙ ap (λ (b : ℕ). afterCells (a .self) b (a .n)) (c .before .opening-blanks .ensures)
-    ∙ sym (Moves.word-starts (a .width) (a .page) (a .self) (a .n) (c .before .before .if1 .taken))
+    ∙ sym (Moves.word-starts (a .sheet) (a .self) (a .n) (c .before .before .if1 .taken))
 
 add-if2 : tie.Need-add-if2
 add-if2 c = search needs
@@ -36,9 +36,9 @@ cells-requires-2 c κs = search needs
 
 returns-2 : tie.Need-returns-2
 returns-2 c =
-    let a = c .before .before .before .before .before .args in
+    let a = c .before .before .before .before .before .before .args in
     let held : 0 < a .self .column = omega arith in
-    c .cells2 .ensures ∙ sym (Moves.word-joins (a .width) (a .page) (a .self) (a .n) held (c .before .if2 .taken))
+    c .cells2 .ensures ∙ sym (Moves.word-joins (a .sheet) (a .self) (a .n) held (c .before .if2 .taken))
 
 line-done-requires : tie.Need-line-done-requires
 line-done-requires c κs = search needs
@@ -48,22 +48,22 @@ opening-blanks-requires-2 c κs = search needs
 
 cells-requires-3 : tie.Need-cells-requires-3
 cells-requires-3 c κs =
-    let a = c .before .before .before .before .before .before .args in
+    let a = c .before .before .before .before .before .before .before .args in
     let q = c .before .line-done .ensures in
-    let o = Moves.opening-at-most (a .width) (c .before .line-done .result) (a .n) in
+    let o = Moves.opening-at-most (a .sheet) (c .before .line-done .result) (a .n) in
     let e = c .opening-blanks2 .ensures in
-    let pre = c .before .before .before .before .before .before .pre in
-    (rw q (Moves.modest-more (omega arith) (Moves.modest-line (a .page) (2 ^ 32) (a .self) (pre .0))), omega arith, pre .1)
+    let pre = c .before .before .before .before .before .before .before .pre in
+    (rw q (Moves.modest-more (omega arith) (Moves.modest-line (a .sheet) (2 ^ 32) (a .self) (pre .0))), omega arith, pre .1)
 
 returns-3 : tie.Need-returns-3
 returns-3 c =
-    let a = c .before .before .before .before .before .before .before .args in
+    let a = c .before .before .before .before .before .before .before .before .args in
     let q = c .before .before .line-done .ensures in
     let held : 0 < a .self .column = omega arith in
     c .cells3 .ensures
     ∙ ap (λ (b : ℕ). afterCells (c .before .before .line-done .result) b (a .n)) (c .before .opening-blanks2 .ensures)
-    ∙ ap (λ (p : Place). afterCells p (openingBlanks (a .width) p (a .n)) (a .n)) q
-    ∙ sym (Moves.word-overflows (a .width) (a .page) (a .self) (a .n) held (omega arith))
+    ∙ ap (λ (p : Place). afterCells p (openingBlanks (a .sheet) p (a .n)) (a .n)) q
+    ∙ sym (Moves.word-overflows (a .sheet) (a .self) (a .n) held (omega arith))
 
 pub word-spec : {M : Type 1} → statement M
 word-spec =

@@ -22,23 +22,23 @@ enum-known-pieces c = search needs
 array-share-prefix-signs : tie.Need-array-share-prefix-signs
 array-share-prefix-signs c =
     let a = c .before .before .before .before .before .before .before .before .before .args in
-    whole-translated _ _ _ _ (a .out .now) _ (c .before .before .before .before .before .sizes-verdict .ensures) (c .before .before .before .translate .ensures) (c .before .pieces .given .1) .0
+    whole-translated _ _ _ (a .out .now) _ (c .before .before .before .before .before .sizes-verdict .ensures) (c .before .before .before .translate .ensures) (c .before .pieces .given .1) .0
 
 slice-aggregate-fill : tie.Need-slice-aggregate-fill
 slice-aggregate-fill c =
     let told = c .before in
     let a = told .before .before .before .before .before .before .before .before .before .args in
-    sym (length-take-le _ _ (whole-translated _ _ _ _ (a .out .now) _ (told .before .before .before .before .before .sizes-verdict .ensures) (told .before .before .before .translate .ensures) (told .before .pieces .given .1) .0))
+    sym (length-take-le _ _ (whole-translated _ _ _ (a .out .now) _ (told .before .before .before .before .before .sizes-verdict .ensures) (told .before .before .before .translate .ensures) (told .before .pieces .given .1) .0))
 
 fill-requires : tie.Need-fill-requires
 fill-requires c κs =
     let told = c .before .before in
     let a = told .before .before .before .before .before .before .before .before .before .args in
-    whole-translated _ _ _ _ (a .out .now) _ (told .before .before .before .before .before .sizes-verdict .ensures) (told .before .before .before .translate .ensures) (told .before .pieces .given .1) .1
+    whole-translated _ _ _ (a .out .now) _ (told .before .before .before .before .before .sizes-verdict .ensures) (told .before .before .before .translate .ensures) (told .before .pieces .given .1) .1
 
 returns : tie.Need-returns
 returns c =
-    whole-translated _ _ _ _ _ _ (c .before .before .before .before .before .sizes-verdict .ensures) (c .before .before .before .translate .ensures) (c .before .refusal .given .1)
+    whole-translated _ _ _ _ _ (c .before .before .before .before .before .sizes-verdict .ensures) (c .before .before .before .translate .ensures) (c .before .refusal .given .1)
 
 same-length : tie.Need-same-length
 same-length c = search needs
@@ -47,7 +47,7 @@ returns-2 : tie.Need-returns-2
 returns-2 c =
     let told = c .before .before .before .before .before in
     let a = told .before .before .before .before .before .before .before .before .before .args in
-    whole-translated _ _ _ _ (a .out .now) _ (told .before .before .before .before .before .sizes-verdict .ensures) (told .before .before .before .translate .ensures) (told .before .pieces .given .1) .2 _ _ (c .before .before .fill .ensures)
+    whole-translated _ _ _ (a .out .now) _ (told .before .before .before .before .before .sizes-verdict .ensures) (told .before .before .before .translate .ensures) (told .before .pieces .given .1) .2 _ _ (c .before .before .fill .ensures)
 
 pub emboss-spec : {M : Type 1} → statement M
 emboss-spec =

@@ -30,10 +30,10 @@ write-requires : tie.Need-write-requires
 write-requires c κs =
     let a = c .before .before .before .before .before .args in
     let pre = c .before .before .before .before .before .pre in
-    let items : List Item = itemsOf (a .width) (a .signs .now) in
-    let bytes : List ℕ = volume (a .width) (a .page) items in
-    let fits : Fitting (a .width) items = items-fit (pre .wide) (a .signs .now) (pre .printed) in
-    let n = ap (λ (p : Place). p .written) (c .before .before .measure .ensures) ∙ Counts.written-is-length (a .width) (a .page) items fits (pre .page) in
+    let items : List Item = itemsOf (a .sheet .width) (a .signs .now) in
+    let bytes : List ℕ = volume (a .sheet) items in
+    let fits : Fitting (a .sheet .width) items = items-fit (pre .wide) (a .signs .now) (pre .printed) in
+    let n = ap (λ (p : Place). p .written) (c .before .before .measure .ensures) ∙ Counts.written-is-length (a .sheet) items fits (pre .page) in
     (pre .most, pre .wide, pre .narrow, omega arith)
 
 same-length : tie.Need-same-length
@@ -44,13 +44,13 @@ unfolding roomed done
 returns c =
     let a = c .before .before .before .before .before .before .before .before .args in
     let pre = c .before .before .before .before .before .before .before .before .pre in
-    let items : List Item = itemsOf (a .width) (a .signs .now) in
-    let bytes : List ℕ = volume (a .width) (a .page) items in
-    let fits : Fitting (a .width) items = items-fit (pre .wide) (a .signs .now) (pre .printed) in
+    let items : List Item = itemsOf (a .sheet .width) (a .signs .now) in
+    let bytes : List ℕ = volume (a .sheet) items in
+    let fits : Fitting (a .sheet .width) items = items-fit (pre .wide) (a .signs .now) (pre .printed) in
     let e = c .before .before .before .before .before .measure .ensures in
-    let n = ap (λ (p : Place). p .written) e ∙ Counts.written-is-length (a .width) (a .page) items fits (pre .page) in
-    let l = ap (λ (p : Place). p .lines) e ∙ Counts.lines-are-64s (a .width) (a .page) items fits (pre .page) in
-    let g = ap (λ (p : Place). p .pages) e ∙ Counts.pages-are-65s (a .width) (a .page) items fits (pre .page) in
+    let n = ap (λ (p : Place). p .written) e ∙ Counts.written-is-length (a .sheet) items fits (pre .page) in
+    let l = ap (λ (p : Place). p .lines) e ∙ Counts.lines-are-64s (a .sheet) items fits (pre .page) in
+    let g = ap (λ (p : Place). p .pages) e ∙ Counts.pages-are-65s (a .sheet) items fits (pre .page) in
     let room : length bytes ≤ length (a .out .now) = omega arith in
     let b = le-leb (length bytes) (length (a .out .now)) room in
     record {
@@ -63,10 +63,10 @@ unfolding roomed refused
 returns-2 c =
     let a = c .before .before .before .before .args in
     let pre = c .before .before .before .before .pre in
-    let items : List Item = itemsOf (a .width) (a .signs .now) in
-    let bytes : List ℕ = volume (a .width) (a .page) items in
-    let fits : Fitting (a .width) items = items-fit (pre .wide) (a .signs .now) (pre .printed) in
-    let n = ap (λ (p : Place). p .written) (c .before .measure .ensures) ∙ Counts.written-is-length (a .width) (a .page) items fits (pre .page) in
+    let items : List Item = itemsOf (a .sheet .width) (a .signs .now) in
+    let bytes : List ℕ = volume (a .sheet) items in
+    let fits : Fitting (a .sheet .width) items = items-fit (pre .wide) (a .signs .now) (pre .printed) in
+    let n = ap (λ (p : Place). p .written) (c .before .measure .ensures) ∙ Counts.written-is-length (a .sheet) items fits (pre .page) in
     let short : length (a .out .now) < length bytes = omega arith in
     let b = lt-leb (length bytes) (length (a .out .now)) short in
     record { answered = rw (b, roomed, n); written = rw (b, roomed) }

@@ -25,25 +25,25 @@ returns : tie.Need-returns
 unfolding afterFormat formatOf afterItem
 returns c =
     let a = c .before .before .args in
-    c .line-end .ensures ∙ ap (λ (g : ℕ). afterFormat (a .width) (a .page) (a .p) g) (sym (c .before .match .keys1))
+    c .line-end .ensures ∙ ap (λ (g : ℕ). afterFormat (a .sheet) (a .p) g) (sym (c .before .match .keys1))
 
 returns-2 : tie.Need-returns-2
 unfolding afterFormat formatOf afterItem
 returns-2 c =
     let a = c .before .before .args in
-    c .empty-line .ensures ∙ ap (λ (g : ℕ). afterFormat (a .width) (a .page) (a .p) g) (sym (c .before .match .keys2))
+    c .empty-line .ensures ∙ ap (λ (g : ℕ). afterFormat (a .sheet) (a .p) g) (sym (c .before .match .keys2))
 
 returns-3 : tie.Need-returns-3
 unfolding afterFormat formatOf afterItem
 returns-3 c =
     let a = c .before .before .args in
-    c .paragraph .ensures ∙ ap (λ (g : ℕ). afterFormat (a .width) (a .page) (a .p) g) (sym (c .before .match .keys3))
+    c .paragraph .ensures ∙ ap (λ (g : ℕ). afterFormat (a .sheet) (a .p) g) (sym (c .before .match .keys3))
 
 returns-4 : tie.Need-returns-4
 unfolding afterFormat formatOf afterItem
 returns-4 c =
     let a = c .before .before .args in
-    c .page-end .ensures ∙ ap (λ (g : ℕ). afterFormat (a .width) (a .page) (a .p) g) (sym (c .before .match .keys4))
+    c .page-end .ensures ∙ ap (λ (g : ℕ). afterFormat (a .sheet) (a .p) g) (sym (c .before .match .keys4))
 
 returns-5 : tie.Need-returns-5
 unfolding afterFormat formatOf

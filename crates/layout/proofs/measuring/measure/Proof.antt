@@ -16,12 +16,12 @@ use Rattle.layout.proofs.measuring.measure.Statement.{statement}
 use Rattle.layout.proofs.measuring.measure.Tie as tie
 
 abbrev Inv-loop : tie.InvT-loop
-Inv-loop signs width page p₀ n₀ i₀ p n i =
-    (i ≤ length signs) × (n < width) × Modest (70 * i) p
-    × ((cells : List ℕ) × (length cells ≡ n) × (afterRest width page p cells (drop i signs) ≡ volumeEnd width page (itemsOf width signs)))
+Inv-loop signs sheet p₀ n₀ i₀ p n i =
+    (i ≤ length signs) × (n < sheet .width) × Modest (70 * i) p
+    × ((cells : List ℕ) × (length cells ≡ n) × (afterRest sheet p cells (drop i signs) ≡ volumeEnd sheet (itemsOf (sheet .width) signs)))
 
 abbrev μ-loop : tie.MeasureT-loop
-μ-loop signs width page p₀ n₀ i₀ p n i = length signs - i
+μ-loop signs sheet p₀ n₀ i₀ p n i = length signs - i
 
 first-requires : tie.Need-first-requires Inv-loop μ-loop
 first-requires c κs = search needs
@@ -62,15 +62,15 @@ loop-again c =
     let size : length cells ≡ l .n = v .3 .1 in
     let there : l .i < length (a .signs .now) = omega arith in
     let g : ℕ = getD (a .signs .now) (l .i) 0 in
-    let below : length cells < a .width = omega arith in
-    let e : c .before .step .result ≡ stepped (a .width) (a .page) (l .p) (length cells) g = c .before .step .ensures ∙ ap (λ (n : ℕ). stepped (a .width) (a .page) (l .p) n g) (sym size) in
-    let w = Gather.waiting-length (a .width) (a .page) (pre .1) (l .p) cells g in
-    let b = Gather.waiting-below (a .width) (a .page) (pre .1) cells g below in
+    let below : length cells < a .sheet .width = omega arith in
+    let e : c .before .step .result ≡ stepped (a .sheet) (l .p) (length cells) g = c .before .step .ensures ∙ ap (λ (n : ℕ). stepped (a .sheet) (l .p) n g) (sym size) in
+    let w = Gather.waiting-length (a .sheet) (pre .1) (l .p) cells g in
+    let b = Gather.waiting-below (a .sheet) (pre .1) cells g below in
     rw e (
       omega arith,
       rw (← w) b,
-      Moves.modest-more (omega arith) (Gather.modest-step (a .width) (a .page) (70 * l .i) (length cells) g (l .p) (omega arith) (v .2)),
-      (waiting (a .width) cells g, w, sym (Gather.turn-after (a .width) (a .page) (pre .1) (a .signs .now) (l .i) there (l .p) cells below) ∙ v .3 .2),
+      Moves.modest-more (omega arith) (Gather.modest-step (a .sheet) (70 * l .i) (length cells) g (l .p) (omega arith) (v .2)),
+      (waiting (a .sheet) cells g, w, sym (Gather.turn-after (a .sheet) (pre .1) (a .signs .now) (l .i) there (l .p) cells below) ∙ v .3 .2),
     )
 
 flush-requires : tie.Need-flush-requires Inv-loop μ-loop
@@ -87,7 +87,7 @@ page-end-requires c κs =
     let v = l .inv in
     let pre = c .before .before .before .before .before .pre in
     let i : 70 * l .i + 4 + l .n ≤ 2 ^ 32 = omega arith in
-    rw (c .flush .ensures) (Moves.modest-more i (Gather.modest-flush (a .width) (a .page) (70 * l .i) (l .n) (l .p) (v .2)))
+    rw (c .flush .ensures) (Moves.modest-more i (Gather.modest-flush (a .sheet) (70 * l .i) (l .n) (l .p) (v .2)))
 
 returns : tie.Need-returns Inv-loop μ-loop
 returns c =
@@ -99,9 +99,9 @@ returns c =
     let size : length cells ≡ l .n = v .3 .1 in
     let all : drop (l .i) (a .signs .now) ≡ [] = drop-of-length-le (a .signs .now) {i = l .i} (omega arith) in
     c .page-end .ensures
-    ∙ ap (λ (q : Place). afterPageEnd (a .page) q) (c .before .flush .ensures ∙ ap (λ (n : ℕ). afterFlush (a .width) (a .page) (l .p) n) (sym size))
-    ∙ sym (Gather.end-after (a .width) (a .page) (pre .1) (l .p) cells (omega arith))
-    ∙ ap (λ (r : List ℕ). afterRest (a .width) (a .page) (l .p) cells r) (sym all)
+    ∙ ap (λ (q : Place). afterPageEnd (a .sheet) q) (c .before .flush .ensures ∙ ap (λ (n : ℕ). afterFlush (a .sheet) (l .p) n) (sym size))
+    ∙ sym (Gather.end-after (a .sheet) (pre .1) (l .p) cells (omega arith))
+    ∙ ap (λ (r : List ℕ). afterRest (a .sheet) (l .p) cells r) (sym all)
     ∙ v .3 .2
 
 pub measure-spec : {M : Type 1} → statement M

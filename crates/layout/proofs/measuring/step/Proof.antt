@@ -33,14 +33,14 @@ format-requires : tie.Need-format-requires
 format-requires c κs =
     let a = c .before .before .before .before .args in
     let pre = c .before .before .before .before .pre in
-    rw (c .flush2 .ensures) (Moves.modest-more (omega arith) (Gather.modest-flush (a .width) (a .page) (2 ^ 31) (a .n) (a .p) (pre .0)))
+    rw (c .flush2 .ensures) (Moves.modest-more (omega arith) (Gather.modest-flush (a .sheet) (2 ^ 31) (a .n) (a .p) (pre .0)))
 
 returns-2 : tie.Need-returns-2
 unfolding stepped waits
 returns-2 c =
     let a = c .before .before .before .before .before .args in
     rw (ne-eqb (a .g) 0 (c .before .before .before .before .if1 .left), ← (c .before .before .before .is-format .ensures), c .before .before .if2 .taken)
-    (ap (λ (q : Place). waits q 0) (c .format .ensures ∙ ap (λ (q : Place). afterFormat (a .width) (a .page) q (a .g)) (c .before .flush2 .ensures)))
+    (ap (λ (q : Place). waits q 0) (c .format .ensures ∙ ap (λ (q : Place). afterFormat (a .sheet) q (a .g)) (c .before .flush2 .ensures)))
 
 add-if3 : tie.Need-add-if3
 add-if3 c = search needs
@@ -54,20 +54,20 @@ word-requires c κs = search needs
 returns-3 : tie.Need-returns-3
 unfolding stepped waits
 returns-3 c =
-    let a = c .before .before .before .before .before .args in
+    let a = c .before .before .before .before .before .before .args in
     rw
-    (ne-eqb (a .g) 0 (c .before .before .before .before .if1 .left), ← (c .before .before .before .is-format .ensures), c .before .before .if2 .left, eq-eqb (a .n + 1) (a .width) (c .before .if3 .taken))
+    (ne-eqb (a .g) 0 (c .before .before .before .before .before .if1 .left), ← (c .before .before .before .before .is-format .ensures), c .before .before .before .if2 .left, eq-eqb (a .n + 1) (a .sheet .width) (c .before .if3 .taken))
     (ap (λ (q : Place). waits q 0) (c .word .ensures))
 
-add-t12 : tie.Need-add-t12
-add-t12 c = search needs
+add-t11 : tie.Need-add-t11
+add-t11 c = search needs
 
 returns-4 : tie.Need-returns-4
 unfolding stepped
 returns-4 c =
-    let a = c .before .before .before .before .args in
+    let a = c .before .before .before .before .before .args in
     rw
-    (ne-eqb (a .g) 0 (c .before .before .before .if1 .left), ← (c .before .before .is-format .ensures), c .before .if2 .left, ne-eqb (a .n + 1) (a .width) (c .if3 .left))
+    (ne-eqb (a .g) 0 (c .before .before .before .before .if1 .left), ← (c .before .before .before .is-format .ensures), c .before .before .if2 .left, ne-eqb (a .n + 1) (a .sheet .width) (c .if3 .left))
 
 pub step-spec : {M : Type 1} → statement M
 step-spec =
@@ -83,5 +83,5 @@ step-spec =
     add-word
     word-requires
     returns-3
-    add-t12
+    add-t11
     returns-4)

@@ -9,6 +9,7 @@ use lib.ListN.{length, length-append}
 use lib.Seq.{sets, length-sets}
 use Rattle.layout.specs.Place.{hasLine, afterLine, lineBytes, afterLineEnd, lineEndBytes, emptyLineBytes}
 use Rattle.layout.specs.declared.Place.{Place}
+use Rattle.layout.specs.declared.Sheet.{Sheet}
 use Rattle.layout.proofs.Moves as Moves
 use Rattle.layout.proofs.Bytes as Bytes
 use Rattle.layout.proofs.Sets.{put-then}
@@ -16,29 +17,29 @@ use Rattle.layout.proofs.writing.put_empty_line.Statement.{statement}
 use Rattle.layout.proofs.writing.put_empty_line.Tie as tie
 
 -- the bytes of sign 70 have room where those of sign 71 have
-first-room : (page : ℕ) (p : Place) (out : List ℕ) → p .written + length (emptyLineBytes page p) ≤ length out
-    → p .written + length (lineEndBytes page p) ≤ length out
+first-room : (sheet : Sheet) (p : Place) (out : List ℕ) → p .written + length (emptyLineBytes sheet p) ≤ length out
+    → p .written + length (lineEndBytes sheet p) ≤ length out
 unfolding emptyLineBytes
-first-room page p out h = let n = length-append (lineEndBytes page p) (cond (hasLine (afterLineEnd page p)) (lineBytes page (afterLineEnd page p)) []) in omega arith
+first-room sheet p out h = let n = length-append (lineEndBytes sheet p) (cond (hasLine (afterLineEnd sheet p)) (lineBytes sheet (afterLineEnd sheet p)) []) in omega arith
 
 put-line-end-requires : tie.Need-put-line-end-requires
 put-line-end-requires c κs =
     let a = c .before .before .args in
     let pre = c .before .before .pre in
-    record { modest = Moves.modest-more (omega arith) (pre .modest); room = first-room (a .page) (a .p) (a .out .now) (pre .room) }
+    record { modest = Moves.modest-more (omega arith) (pre .modest); room = first-room (a .sheet) (a .p) (a .out .now) (pre .room) }
 
 put-line-requires : tie.Need-put-line-requires
 put-line-requires c κs =
     let a = c .before .before .before .before .before .before .before .before .args in
     let pre = c .before .before .before .before .before .before .before .before .pre in
     let e = c .before .before .before .before .before .put-line-end .ensures in
-    let l : 0 < afterLineEnd (a .page) (a .p) .line = rw (← (e .place)) (c .before .if1 .taken) in
-    let w = Bytes.written-line-end (a .page) (a .p) in
-    let b = ap length (Bytes.empty-line-bytes-below (a .page) (a .p) l) ∙ length-append (lineEndBytes (a .page) (a .p)) (lineBytes (a .page) (afterLineEnd (a .page) (a .p))) in
-    let n = ap length (e .page) ∙ length-sets (a .out .now) (a .p .written) (lineEndBytes (a .page) (a .p)) in
+    let l : 0 < afterLineEnd (a .sheet) (a .p) .line = rw (← (e .place)) (c .before .if1 .taken) in
+    let w = Bytes.written-line-end (a .sheet) (a .p) in
+    let b = ap length (Bytes.empty-line-bytes-below (a .sheet) (a .p) l) ∙ length-append (lineEndBytes (a .sheet) (a .p)) (lineBytes (a .sheet) (afterLineEnd (a .sheet) (a .p))) in
+    let n = ap length (e .page) ∙ length-sets (a .out .now) (a .p .written) (lineEndBytes (a .sheet) (a .p)) in
     rw (e .place)
     (record {
-      modest = Moves.modest-more (omega arith) (Moves.modest-line-end (a .page) (2 ^ 32) (a .p) (pre .modest));
+      modest = Moves.modest-more (omega arith) (Moves.modest-line-end (a .sheet) (2 ^ 32) (a .p) (pre .modest));
       room = let r = pre .room in omega arith;
     })
 
@@ -49,16 +50,16 @@ returns : tie.Need-returns
 returns c =
     let a = c .before .before .before .before .before .before .before .before .before .before .before .args in
     let e = c .before .before .before .before .before .before .before .before .put-line-end .ensures in
-    let l : 0 < afterLineEnd (a .page) (a .p) .line = rw (← (e .place)) (c .before .before .before .before .if1 .taken) in
+    let l : 0 < afterLineEnd (a .sheet) (a .p) .line = rw (← (e .place)) (c .before .before .before .before .if1 .taken) in
     let f = c .before .before .put-line .ensures in
     let q = e .place in
     record {
-      place = f .place ∙ ap (λ (r : Place). afterLine (a .page) r) q ∙ sym (Moves.empty-line-below (a .page) (a .p) l);
+      place = f .place ∙ ap (λ (r : Place). afterLine (a .sheet) r) q ∙ sym (Moves.empty-line-below (a .sheet) (a .p) l);
       page =
-          put-then (a .out .now) (c .before .before .before .before .before .before .before .before .put-line-end .last .0) _ (a .p .written) (lineEndBytes (a .page) (a .p)) (lineBytes (a .page) (afterLineEnd (a .page) (a .p))) (e .page)
-          (f .page ∙ ap (λ (r : Place). sets (c .before .before .before .before .before .before .before .before .put-line-end .last .0) (r .written) (lineBytes (a .page) r)) q)
-          (Bytes.written-line-end (a .page) (a .p))
-          ∙ ap (λ (r : List ℕ). sets (a .out .now) (a .p .written) r) (sym (Bytes.empty-line-bytes-below (a .page) (a .p) l));
+          put-then (a .out .now) (c .before .before .before .before .before .before .before .before .put-line-end .last .0) _ (a .p .written) (lineEndBytes (a .sheet) (a .p)) (lineBytes (a .sheet) (afterLineEnd (a .sheet) (a .p))) (e .page)
+          (f .page ∙ ap (λ (r : Place). sets (c .before .before .before .before .before .before .before .before .put-line-end .last .0) (r .written) (lineBytes (a .sheet) r)) q)
+          (Bytes.written-line-end (a .sheet) (a .p))
+          ∙ ap (λ (r : List ℕ). sets (a .out .now) (a .p .written) r) (sym (Bytes.empty-line-bytes-below (a .sheet) (a .p) l));
     }
 
 same-length-2 : tie.Need-same-length-2
@@ -68,10 +69,10 @@ returns-2 : tie.Need-returns-2
 returns-2 c =
     let a = c .before .before .before .before .before .before .before .args in
     let e = c .before .before .before .before .put-line-end .ensures in
-    let l : afterLineEnd (a .page) (a .p) .line ≡ 0 = rw (← (e .place)) (omega arith) in
+    let l : afterLineEnd (a .sheet) (a .p) .line ≡ 0 = rw (← (e .place)) (omega arith) in
     record {
-      place = e .place ∙ sym (Moves.empty-line-at-top (a .page) (a .p) l);
-      page = e .page ∙ ap (λ (r : List ℕ). sets (a .out .now) (a .p .written) r) (sym (Bytes.empty-line-bytes-at-top (a .page) (a .p) l));
+      place = e .place ∙ sym (Moves.empty-line-at-top (a .sheet) (a .p) l);
+      page = e .page ∙ ap (λ (r : List ℕ). sets (a .out .now) (a .p .written) r) (sym (Bytes.empty-line-bytes-at-top (a .sheet) (a .p) l));
     }
 
 pub put-empty-line-spec : {M : Type 1} → statement M

@@ -19,7 +19,7 @@ unfolding formatBytes formatOf itemBytes
 put-line-end-requires c κs =
     let a = c .before .before .before .args in
     let e : a .g ≡ 70 = c .before .if1 .taken in
-    let pre = subst (λ (g : ℕ). Room (2 ^ 32) (a .out .now) (a .p) (formatBytes (a .width) (a .page) (a .p) g)) e (c .before .before .before .pre) in
+    let pre = subst (λ (g : ℕ). Room (2 ^ 32) (a .out .now) (a .p) (formatBytes (a .sheet) (a .p) g)) e (c .before .before .before .pre) in
     record { modest = Moves.modest-more (omega arith) (pre .modest); room = pre .room }
 
 same-length : tie.Need-same-length
@@ -32,7 +32,7 @@ returns c =
     let e : a .g ≡ 70 = c .before .before .before .before .if1 .taken in
     let m : List ℕ = c .before .before .put-line-end .last .0 in
     let r : Place = c .before .before .put-line-end .result in
-    subst (λ (g : ℕ). Moved (a .out .now) (a .p) (formatBytes (a .width) (a .page) (a .p) g) m (afterFormat (a .width) (a .page) (a .p) g) r) (sym e)
+    subst (λ (g : ℕ). Moved (a .out .now) (a .p) (formatBytes (a .sheet) (a .p) g) m (afterFormat (a .sheet) (a .p) g) r) (sym e)
     (c .before .before .put-line-end .ensures)
 
 put-empty-line-requires : tie.Need-put-empty-line-requires
@@ -40,7 +40,7 @@ unfolding formatBytes formatOf itemBytes
 put-empty-line-requires c κs =
     let a = c .before .before .before .before .args in
     let e : a .g ≡ 71 = c .before .if2 .taken in
-    let pre = subst (λ (g : ℕ). Room (2 ^ 32) (a .out .now) (a .p) (formatBytes (a .width) (a .page) (a .p) g)) e (c .before .before .before .before .pre) in
+    let pre = subst (λ (g : ℕ). Room (2 ^ 32) (a .out .now) (a .p) (formatBytes (a .sheet) (a .p) g)) e (c .before .before .before .before .pre) in
     pre
 
 same-length-2 : tie.Need-same-length-2
@@ -53,7 +53,7 @@ returns-2 c =
     let e : a .g ≡ 71 = c .before .before .before .before .if2 .taken in
     let m : List ℕ = c .before .before .put-empty-line .last .0 in
     let r : Place = c .before .before .put-empty-line .result in
-    subst (λ (g : ℕ). Moved (a .out .now) (a .p) (formatBytes (a .width) (a .page) (a .p) g) m (afterFormat (a .width) (a .page) (a .p) g) r) (sym e)
+    subst (λ (g : ℕ). Moved (a .out .now) (a .p) (formatBytes (a .sheet) (a .p) g) m (afterFormat (a .sheet) (a .p) g) r) (sym e)
     (c .before .before .put-empty-line .ensures)
 
 put-paragraph-requires : tie.Need-put-paragraph-requires
@@ -61,7 +61,7 @@ unfolding formatBytes formatOf itemBytes
 put-paragraph-requires c κs =
     let a = c .before .before .before .before .before .args in
     let e : a .g ≡ 72 = c .before .if3 .taken in
-    let pre = subst (λ (g : ℕ). Room (2 ^ 32) (a .out .now) (a .p) (formatBytes (a .width) (a .page) (a .p) g)) e (c .before .before .before .before .before .pre) in
+    let pre = subst (λ (g : ℕ). Room (2 ^ 32) (a .out .now) (a .p) (formatBytes (a .sheet) (a .p) g)) e (c .before .before .before .before .before .pre) in
     pre
 
 same-length-3 : tie.Need-same-length-3
@@ -74,7 +74,7 @@ returns-3 c =
     let e : a .g ≡ 72 = c .before .before .before .before .if3 .taken in
     let m : List ℕ = c .before .before .put-paragraph .last .0 in
     let r : Place = c .before .before .put-paragraph .result in
-    subst (λ (g : ℕ). Moved (a .out .now) (a .p) (formatBytes (a .width) (a .page) (a .p) g) m (afterFormat (a .width) (a .page) (a .p) g) r) (sym e)
+    subst (λ (g : ℕ). Moved (a .out .now) (a .p) (formatBytes (a .sheet) (a .p) g) m (afterFormat (a .sheet) (a .p) g) r) (sym e)
     (c .before .before .put-paragraph .ensures)
 
 put-page-end-requires : tie.Need-put-page-end-requires
@@ -82,7 +82,7 @@ unfolding formatBytes formatOf itemBytes
 put-page-end-requires c κs =
     let a = c .before .before .before .before .before .before .args in
     let e : a .g ≡ 73 = c .before .if4 .taken in
-    let pre = subst (λ (g : ℕ). Room (2 ^ 32) (a .out .now) (a .p) (formatBytes (a .width) (a .page) (a .p) g)) e (c .before .before .before .before .before .before .pre) in
+    let pre = subst (λ (g : ℕ). Room (2 ^ 32) (a .out .now) (a .p) (formatBytes (a .sheet) (a .p) g)) e (c .before .before .before .before .before .before .pre) in
     pre
 
 same-length-4 : tie.Need-same-length-4
@@ -95,7 +95,7 @@ returns-4 c =
     let e : a .g ≡ 73 = c .before .before .before .before .if4 .taken in
     let m : List ℕ = c .before .before .put-page-end .last .0 in
     let r : Place = c .before .before .put-page-end .result in
-    subst (λ (g : ℕ). Moved (a .out .now) (a .p) (formatBytes (a .width) (a .page) (a .p) g) m (afterFormat (a .width) (a .page) (a .p) g) r) (sym e)
+    subst (λ (g : ℕ). Moved (a .out .now) (a .p) (formatBytes (a .sheet) (a .p) g) m (afterFormat (a .sheet) (a .p) g) r) (sym e)
     (c .before .before .put-page-end .ensures)
 
 returns-5 : tie.Need-returns-5

@@ -13,9 +13,9 @@ add-if1 c = search needs
 
 slice-write-out : tie.Need-slice-write-out
 slice-write-out c =
-    let a = c .before .before .before .args in
-    let pre = c .before .before .before .pre in
-    let n = ap length (Bytes.line-bytes-full (a .page) (a .p) (c .if1 .taken)) in
+    let a = c .before .before .before .before .args in
+    let pre = c .before .before .before .before .pre in
+    let n = ap length (Bytes.line-bytes-full (a .sheet) (a .p) (c .if1 .taken)) in
     omega arith
 
 add-out : tie.Need-add-out
@@ -23,9 +23,9 @@ add-out c = search needs
 
 slice-write-out-2 : tie.Need-slice-write-out-2
 slice-write-out-2 c =
-    let a = c .before .before .before .args in
-    let pre = c .before .before .before .pre in
-    let n = ap length (Bytes.line-bytes-full (a .page) (a .p) (c .if1 .taken)) in
+    let a = c .before .before .before .before .args in
+    let pre = c .before .before .before .before .pre in
+    let n = ap length (Bytes.line-bytes-full (a .sheet) (a .p) (c .if1 .taken)) in
     simp length-set (omega arith)
 
 line-done-requires : tie.Need-line-done-requires
@@ -36,17 +36,17 @@ same-length c = search needs
 
 returns : tie.Need-returns
 returns c =
-    let a = c .before .before .before .before .args in
+    let a = c .before .before .before .before .before .args in
     record {
       place = c .line-done .ensures;
-      page = rw (Bytes.line-bytes-full (a .page) (a .p) (c .before .if1 .taken), add-one (a .p .written));
+      page = rw (Bytes.line-bytes-full (a .sheet) (a .p) (c .before .if1 .taken), add-one (a .p .written));
     }
 
 slice-write-out-3 : tie.Need-slice-write-out-3
 slice-write-out-3 c =
-    let a = c .before .before .before .args in
-    let pre = c .before .before .before .pre in
-    let n = ap length (Bytes.line-bytes-on (a .page) (a .p) (c .if1 .left)) in
+    let a = c .before .before .before .before .args in
+    let pre = c .before .before .before .before .pre in
+    let n = ap length (Bytes.line-bytes-on (a .sheet) (a .p) (c .if1 .left)) in
     omega arith
 
 line-done-requires-2 : tie.Need-line-done-requires-2
@@ -57,8 +57,8 @@ same-length-2 c = search needs
 
 returns-2 : tie.Need-returns-2
 returns-2 c =
-    let a = c .before .before .before .before .args in
-    record { place = c .line-done2 .ensures; page = rw (Bytes.line-bytes-on (a .page) (a .p) (c .before .if1 .left)) }
+    let a = c .before .before .before .before .before .args in
+    record { place = c .line-done2 .ensures; page = rw (Bytes.line-bytes-on (a .sheet) (a .p) (c .before .if1 .left)) }
 
 pub put-line-spec : {M : Type 1} → statement M
 put-line-spec =

@@ -14,7 +14,7 @@ put-line-requires : tie.Need-put-line-requires
 put-line-requires c κs =
     let a = c .before .before .before .before .args in
     let pre = c .before .before .before .before .pre in
-    rw (← (Bytes.line-end-bytes-held (a .page) (a .p) (c .before .if1 .taken))) pre
+    rw (← (Bytes.line-end-bytes-held (a .sheet) (a .p) (c .before .if1 .taken))) pre
 
 same-length : tie.Need-same-length
 same-length c = search needs
@@ -25,15 +25,15 @@ returns c =
     let held = c .before .before .before .before .if1 .taken in
     let e = c .before .before .put-line .ensures in
     record {
-      place = e .place ∙ sym (Moves.line-end-held (a .page) (a .p) held);
-      page = e .page ∙ ap (λ (r : List ℕ). sets (a .out .now) (a .p .written) r) (sym (Bytes.line-end-bytes-held (a .page) (a .p) held));
+      place = e .place ∙ sym (Moves.line-end-held (a .sheet) (a .p) held);
+      page = e .page ∙ ap (λ (r : List ℕ). sets (a .out .now) (a .p .written) r) (sym (Bytes.line-end-bytes-held (a .sheet) (a .p) held));
     }
 
 returns-2 : tie.Need-returns-2
 returns-2 c =
     let a = c .before .before .before .args in
     let empty : a .p .column ≡ 0 = omega arith in
-    record { place = sym (Moves.line-end-empty (a .page) (a .p) empty); page = rw (Bytes.line-end-bytes-empty (a .page) (a .p) empty) }
+    record { place = sym (Moves.line-end-empty (a .sheet) (a .p) empty); page = rw (Bytes.line-end-bytes-empty (a .sheet) (a .p) empty) }
 
 pub put-line-end-spec : {M : Type 1} → statement M
 put-line-end-spec = tie.close (tie.spec put-line-requires same-length returns returns-2)

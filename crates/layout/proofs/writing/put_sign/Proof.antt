@@ -35,7 +35,7 @@ put-flush-requires c κs =
     let pre = c .before .before .before .before .before .pre in
     let cells : List ℕ = take (a .n) (a .word .now) in
     let size : length cells ≡ a .n = length-take-le (a .n) (a .word .now) (omega arith) in
-    let s = Steps.step-blank (a .width) (a .page) (a .p) cells (a .n) (a .g) size (c .before .before .if1 .taken) in
+    let s = Steps.step-blank (a .sheet) (a .p) cells (a .n) (a .g) size (c .before .before .if1 .taken) in
     let r = rw (s .bytes-are) at (pre .0 .room) in
     (record { modest = Moves.modest-more (omega arith) (pre .0 .modest); room = r }, omega arith)
 
@@ -51,10 +51,10 @@ returns c =
     let pre = c .before .before .before .before .before .before .before .before .pre in
     let cells : List ℕ = take (a .n) (a .word .now) in
     let size : length cells ≡ a .n = length-take-le (a .n) (a .word .now) (omega arith) in
-    let s = Steps.step-blank (a .width) (a .page) (a .p) cells (a .n) (a .g) size (c .before .before .before .before .before .if1 .taken) in
+    let s = Steps.step-blank (a .sheet) (a .p) cells (a .n) (a .g) size (c .before .before .before .before .before .if1 .taken) in
     let f = c .before .before .put-flush .ensures in
     record {
-      place = ap (λ (q : Place). waits q 0) (f .place ∙ ap (λ (k : ℕ). afterFlush (a .width) (a .page) (a .p) k) size) ∙ sym (s .moved);
+      place = ap (λ (q : Place). waits q 0) (f .place ∙ ap (λ (k : ℕ). afterFlush (a .sheet) (a .p) k) size) ∙ sym (s .moved);
       page = f .page ∙ ap (λ (r : List ℕ). sets (a .out .now) (a .p .written) r) (sym (s .bytes-are));
       waits = sym (s .waits);
     }
@@ -76,9 +76,9 @@ put-flush-requires-2 c κs =
     let pre = c .before .before .before .before .before .before .before .pre in
     let cells : List ℕ = take (a .n) (a .word .now) in
     let size : length cells ≡ a .n = length-take-le (a .n) (a .word .now) (omega arith) in
-    let s = Steps.step-format (a .width) (a .page) (a .p) cells (a .n) (a .g) size (c .before .before .before .before .if1 .left) (sym (c .before .before .before .is-format .ensures) ∙ c .before .before .if2 .taken) in
-    let q : Place = afterFlush (a .width) (a .page) (a .p) (a .n) in
-    let n = ap length (s .bytes-are) ∙ length-append (flushBytes (a .width) (a .page) (a .p) cells) (formatBytes (a .width) (a .page) q (a .g)) in
+    let s = Steps.step-format (a .sheet) (a .p) cells (a .n) (a .g) size (c .before .before .before .before .if1 .left) (sym (c .before .before .before .is-format .ensures) ∙ c .before .before .if2 .taken) in
+    let q : Place = afterFlush (a .sheet) (a .p) (a .n) in
+    let n = ap length (s .bytes-are) ∙ length-append (flushBytes (a .sheet) (a .p) cells) (formatBytes (a .sheet) q (a .g)) in
     (record { modest = Moves.modest-more (omega arith) (pre .0 .modest); room = let r = pre .0 .room in omega arith }, omega arith)
 
 put-format-requires : tie.Need-put-format-requires
@@ -87,17 +87,17 @@ put-format-requires c κs =
     let pre = c .before .before .before .before .before .before .before .before .before .before .before .pre in
     let cells : List ℕ = take (a .n) (a .word .now) in
     let size : length cells ≡ a .n = length-take-le (a .n) (a .word .now) (omega arith) in
-    let s = Steps.step-format (a .width) (a .page) (a .p) cells (a .n) (a .g) size (c .before .before .before .before .before .before .before .before .if1 .left) (sym (c .before .before .before .before .before .before .before .is-format .ensures) ∙ c .before .before .before .before .before .before .if2 .taken) in
-    let q : Place = afterFlush (a .width) (a .page) (a .p) (a .n) in
+    let s = Steps.step-format (a .sheet) (a .p) cells (a .n) (a .g) size (c .before .before .before .before .before .before .before .before .if1 .left) (sym (c .before .before .before .before .before .before .before .is-format .ensures) ∙ c .before .before .before .before .before .before .if2 .taken) in
+    let q : Place = afterFlush (a .sheet) (a .p) (a .n) in
     let f = c .before .before .before .put-flush2 .ensures in
-    let e : c .before .before .before .put-flush2 .result ≡ q = f .place ∙ ap (λ (k : ℕ). afterFlush (a .width) (a .page) (a .p) k) size in
-    let n = ap length (s .bytes-are) ∙ length-append (flushBytes (a .width) (a .page) (a .p) cells) (formatBytes (a .width) (a .page) q (a .g)) in
-    let w : q .written ≡ a .p .written + length (flushBytes (a .width) (a .page) (a .p) cells) =
-    ap (λ (k : ℕ). afterFlush (a .width) (a .page) (a .p) k .written) (sym size) ∙ Bytes.written-flush (a .width) (a .page) (a .p) cells in
-    let l = ap length (f .page) ∙ length-sets (a .out .now) (a .p .written) (flushBytes (a .width) (a .page) (a .p) cells) in
+    let e : c .before .before .before .put-flush2 .result ≡ q = f .place ∙ ap (λ (k : ℕ). afterFlush (a .sheet) (a .p) k) size in
+    let n = ap length (s .bytes-are) ∙ length-append (flushBytes (a .sheet) (a .p) cells) (formatBytes (a .sheet) q (a .g)) in
+    let w : q .written ≡ a .p .written + length (flushBytes (a .sheet) (a .p) cells) =
+    ap (λ (k : ℕ). afterFlush (a .sheet) (a .p) k .written) (sym size) ∙ Bytes.written-flush (a .sheet) (a .p) cells in
+    let l = ap length (f .page) ∙ length-sets (a .out .now) (a .p .written) (flushBytes (a .sheet) (a .p) cells) in
     rw e
     (record {
-      modest = Moves.modest-more (omega arith) (Gather.modest-flush (a .width) (a .page) (2 ^ 31) (a .n) (a .p) (pre .0 .modest));
+      modest = Moves.modest-more (omega arith) (Gather.modest-flush (a .sheet) (2 ^ 31) (a .n) (a .p) (pre .0 .modest));
       room = let r = pre .0 .room in omega arith;
     })
 
@@ -113,19 +113,19 @@ returns-2 c =
     let pre = c .before .before .before .before .before .before .before .before .before .before .before .before .before .before .pre in
     let cells : List ℕ = take (a .n) (a .word .now) in
     let size : length cells ≡ a .n = length-take-le (a .n) (a .word .now) (omega arith) in
-    let s = Steps.step-format (a .width) (a .page) (a .p) cells (a .n) (a .g) size (c .before .before .before .before .before .before .before .before .before .before .before .if1 .left) (sym (c .before .before .before .before .before .before .before .before .before .before .is-format .ensures) ∙ c .before .before .before .before .before .before .before .before .before .if2 .taken) in
-    let q : Place = afterFlush (a .width) (a .page) (a .p) (a .n) in
+    let s = Steps.step-format (a .sheet) (a .p) cells (a .n) (a .g) size (c .before .before .before .before .before .before .before .before .before .before .before .if1 .left) (sym (c .before .before .before .before .before .before .before .before .before .before .is-format .ensures) ∙ c .before .before .before .before .before .before .before .before .before .if2 .taken) in
+    let q : Place = afterFlush (a .sheet) (a .p) (a .n) in
     let f = c .before .before .before .before .before .before .put-flush2 .ensures in
     let m : List ℕ = c .before .before .before .before .before .before .put-flush2 .last .0 in
     let h = c .before .before .put-format .ensures in
-    let e : c .before .before .before .before .before .before .put-flush2 .result ≡ q = f .place ∙ ap (λ (k : ℕ). afterFlush (a .width) (a .page) (a .p) k) size in
-    let w : q .written ≡ a .p .written + length (flushBytes (a .width) (a .page) (a .p) cells) =
-    ap (λ (k : ℕ). afterFlush (a .width) (a .page) (a .p) k .written) (sym size) ∙ Bytes.written-flush (a .width) (a .page) (a .p) cells in
+    let e : c .before .before .before .before .before .before .put-flush2 .result ≡ q = f .place ∙ ap (λ (k : ℕ). afterFlush (a .sheet) (a .p) k) size in
+    let w : q .written ≡ a .p .written + length (flushBytes (a .sheet) (a .p) cells) =
+    ap (λ (k : ℕ). afterFlush (a .sheet) (a .p) k .written) (sym size) ∙ Bytes.written-flush (a .sheet) (a .p) cells in
     record {
-      place = ap (λ (r : Place). waits r 0) (h .place ∙ ap (λ (r : Place). afterFormat (a .width) (a .page) r (a .g)) e) ∙ sym (s .moved);
+      place = ap (λ (r : Place). waits r 0) (h .place ∙ ap (λ (r : Place). afterFormat (a .sheet) r (a .g)) e) ∙ sym (s .moved);
       page =
-          put-then (a .out .now) m _ (a .p .written) (flushBytes (a .width) (a .page) (a .p) cells) (formatBytes (a .width) (a .page) q (a .g)) (f .page)
-          (h .page ∙ ap (λ (r : Place). sets m (r .written) (formatBytes (a .width) (a .page) r (a .g))) e)
+          put-then (a .out .now) m _ (a .p .written) (flushBytes (a .sheet) (a .p) cells) (formatBytes (a .sheet) q (a .g)) (f .page)
+          (h .page ∙ ap (λ (r : Place). sets m (r .written) (formatBytes (a .sheet) r (a .g))) e)
           w
           ∙ ap (λ (r : List ℕ). sets (a .out .now) (a .p .written) r) (sym (s .bytes-are));
       waits = sym (s .waits);
@@ -142,17 +142,17 @@ slice-reshare-prefix-put-word c = simp length-set (omega arith)
 
 slice-aggregate-put-word : tie.Need-slice-aggregate-put-word
 slice-aggregate-put-word c =
-    let a = c .before .before .before .before .before .before .before .before .args in
+    let a = c .before .before .before .before .before .before .before .before .before .args in
     let l = length-set (a .word .now) (a .n) (a .g) in
     sym (length-take-le (a .n + 1) (set (a .word .now) (a .n) (a .g)) (omega arith))
 
 put-word-requires : tie.Need-put-word-requires
 put-word-requires c κs =
-    let a = c .before .before .before .before .before .before .before .before .args in
-    let pre = c .before .before .before .before .before .before .before .before .pre in
+    let a = c .before .before .before .before .before .before .before .before .before .args in
+    let pre = c .before .before .before .before .before .before .before .before .before .pre in
     let cells : List ℕ = take (a .n) (a .word .now) in
     let size : length cells ≡ a .n = length-take-le (a .n) (a .word .now) (omega arith) in
-    let s = Steps.step-full (a .width) (a .page) (a .p) cells (a .n) (a .g) size (c .before .before .before .before .before .if1 .left) (sym (c .before .before .before .before .is-format .ensures) ∙ c .before .before .before .if2 .left) (c .before .before .if3 .taken) in
+    let s = Steps.step-full (a .sheet) (a .p) cells (a .n) (a .g) size (c .before .before .before .before .before .before .if1 .left) (sym (c .before .before .before .before .before .is-format .ensures) ∙ c .before .before .before .before .if2 .left) (c .before .before .if3 .taken) in
     let m = Steps.one-waits-more (a .word .now) (a .n) (a .g) (omega arith) in
     let l = length-append cells (a .g ∷ []) in
     rw m
@@ -166,21 +166,21 @@ same-length-6 c = search needs
 
 returns-3 : tie.Need-returns-3
 returns-3 c =
-    let a = c .before .before .before .before .before .before .before .before .before .before .before .args in
-    let pre = c .before .before .before .before .before .before .before .before .before .before .before .pre in
+    let a = c .before .before .before .before .before .before .before .before .before .before .before .before .args in
+    let pre = c .before .before .before .before .before .before .before .before .before .before .before .before .pre in
     let cells : List ℕ = take (a .n) (a .word .now) in
     let size : length cells ≡ a .n = length-take-le (a .n) (a .word .now) (omega arith) in
-    let s = Steps.step-full (a .width) (a .page) (a .p) cells (a .n) (a .g) size (c .before .before .before .before .before .before .before .before .if1 .left) (sym (c .before .before .before .before .before .before .before .is-format .ensures) ∙ c .before .before .before .before .before .before .if2 .left) (c .before .before .before .before .before .if3 .taken) in
+    let s = Steps.step-full (a .sheet) (a .p) cells (a .n) (a .g) size (c .before .before .before .before .before .before .before .before .before .if1 .left) (sym (c .before .before .before .before .before .before .before .before .is-format .ensures) ∙ c .before .before .before .before .before .before .before .if2 .left) (c .before .before .before .before .before .if3 .taken) in
     let m = Steps.one-waits-more (a .word .now) (a .n) (a .g) (omega arith) in
     let l : length (cells ++ a .g ∷ []) ≡ a .n + 1 = length-append cells (a .g ∷ []) ∙ ap (λ (k : ℕ). k + 1) size in
     let f = c .before .before .put-word .ensures in
     record {
       place =
           ap (λ (r : Place). waits r 0)
-          (f .place ∙ ap (λ (r : List ℕ). afterWord (a .width) (a .page) (a .p) (length r)) m ∙ ap (λ (k : ℕ). afterWord (a .width) (a .page) (a .p) k) l)
+          (f .place ∙ ap (λ (r : List ℕ). afterWord (a .sheet) (a .p) (length r)) m ∙ ap (λ (k : ℕ). afterWord (a .sheet) (a .p) k) l)
           ∙ sym (s .moved);
       page =
-          f .page ∙ ap (λ (r : List ℕ). sets (a .out .now) (a .p .written) (wordBytes (a .width) (a .page) (a .p) r)) m
+          f .page ∙ ap (λ (r : List ℕ). sets (a .out .now) (a .p .written) (wordBytes (a .sheet) (a .p) r)) m
           ∙ ap (λ (r : List ℕ). sets (a .out .now) (a .p .written) r) (sym (s .bytes-are));
       waits = sym (s .waits);
     }
@@ -190,11 +190,11 @@ same-length-7 c = search needs
 
 returns-4 : tie.Need-returns-4
 returns-4 c =
-    let a = c .before .before .before .before .before .before .args in
-    let pre = c .before .before .before .before .before .before .pre in
+    let a = c .before .before .before .before .before .before .before .args in
+    let pre = c .before .before .before .before .before .before .before .pre in
     let cells : List ℕ = take (a .n) (a .word .now) in
     let size : length cells ≡ a .n = length-take-le (a .n) (a .word .now) (omega arith) in
-    let s = Steps.step-waits (a .width) (a .page) (a .p) cells (a .n) (a .g) size (c .before .before .before .if1 .left) (sym (c .before .before .is-format .ensures) ∙ c .before .if2 .left) (c .if3 .left) in
+    let s = Steps.step-waits (a .sheet) (a .p) cells (a .n) (a .g) size (c .before .before .before .before .if1 .left) (sym (c .before .before .before .is-format .ensures) ∙ c .before .before .if2 .left) (c .if3 .left) in
     let m = Steps.one-waits-more (a .word .now) (a .n) (a .g) (omega arith) in
     record {
       place = sym (s .moved);

@@ -12,10 +12,10 @@ use Rattle.layout.proofs.writing.write.Statement.{statement}
 use Rattle.layout.proofs.writing.write.Tie as tie
 
 abbrev Inv-loop : tie.InvT-loop
-Inv-loop signs width page out₀ word₀ p₀ n₀ i₀ out word p n i = Going width page signs out₀ out word p n i
+Inv-loop signs sheet out₀ word₀ p₀ n₀ i₀ out word p n i = Going sheet signs out₀ out word p n i
 
 abbrev μ-loop : tie.MeasureT-loop
-μ-loop signs width page out₀ word₀ p₀ n₀ i₀ out word p n i = length signs - i
+μ-loop signs sheet out₀ word₀ p₀ n₀ i₀ out word p n i = length signs - i
 
 first-requires : tie.Need-first-requires Inv-loop μ-loop
 first-requires c κs = search needs
@@ -24,7 +24,7 @@ loop-holds : tie.Need-loop-holds Inv-loop μ-loop
 loop-holds c =
     let a = c .before .before .before .args in
     let pre = c .before .before .before .pre in
-    let z : Sized (a .width) (a .page) (a .signs .now) (a .out .now) = record { most = pre .0; wide = pre .1; narrow = pre .2; room = pre .3 } in
+    let z : Sized (a .sheet) (a .signs .now) (a .out .now) = record { most = pre .0; wide = pre .1; narrow = pre .2; room = pre .3 } in
     rw (c .first .ensures) (going-first z _ refl)
 
 slice-aggregate-put-sign : tie.Need-slice-aggregate-put-sign Inv-loop μ-loop
@@ -37,7 +37,7 @@ put-sign-requires : tie.Need-put-sign-requires Inv-loop μ-loop
 put-sign-requires c κs =
     let a = c .before .before .before .before .before .before .before .before .args in
     let pre = c .before .before .before .before .before .before .before .before .pre in
-    let z : Sized (a .width) (a .page) (a .signs .now) (a .out .now) = record { most = pre .0; wide = pre .1; narrow = pre .2; room = pre .3 } in
+    let z : Sized (a .sheet) (a .signs .now) (a .out .now) = record { most = pre .0; wide = pre .1; narrow = pre .2; room = pre .3 } in
     let v = c .before .before .before .before .loop .inv in
     let b = v .buffer in
     (sign-room z v (c .before .before .before .loop-test .taken), v .below, pre .2, omega arith)
@@ -52,7 +52,7 @@ loop-again : tie.Need-loop-again Inv-loop μ-loop
 loop-again c =
     let a = c .before .before .before .before .before .before .before .before .before .before .before .before .before .args in
     let pre = c .before .before .before .before .before .before .before .before .before .before .before .before .before .pre in
-    let z : Sized (a .width) (a .page) (a .signs .now) (a .out .now) = record { most = pre .0; wide = pre .1; narrow = pre .2; room = pre .3 } in
+    let z : Sized (a .sheet) (a .signs .now) (a .out .now) = record { most = pre .0; wide = pre .1; narrow = pre .2; room = pre .3 } in
     let v = c .before .before .before .before .before .before .before .before .before .loop .inv in
     going-more z v (c .before .before .before .before .before .before .before .before .loop-test .taken) (c .before .before .before .before .put-sign .ensures) (c .before .before .before .before .put-sign .kept .1 .1 .0 ∙ v .buffer)
 
@@ -74,7 +74,7 @@ put-flush-requires : tie.Need-put-flush-requires Inv-loop μ-loop
 put-flush-requires c κs =
     let a = c .before .before .before .before .before .before .before .args in
     let pre = c .before .before .before .before .before .before .before .pre in
-    let z : Sized (a .width) (a .page) (a .signs .now) (a .out .now) = record { most = pre .0; wide = pre .1; narrow = pre .2; room = pre .3 } in
+    let z : Sized (a .sheet) (a .signs .now) (a .out .now) = record { most = pre .0; wide = pre .1; narrow = pre .2; room = pre .3 } in
     let v = c .before .before .before .loop .inv in
     let b = v .buffer in
     let s = v .below in
@@ -85,7 +85,7 @@ put-page-end-requires : tie.Need-put-page-end-requires Inv-loop μ-loop
 put-page-end-requires c κs =
     let a = c .before .before .before .before .before .before .before .before .before .before .before .args in
     let pre = c .before .before .before .before .before .before .before .before .before .before .before .pre in
-    let z : Sized (a .width) (a .page) (a .signs .now) (a .out .now) = record { most = pre .0; wide = pre .1; narrow = pre .2; room = pre .3 } in
+    let z : Sized (a .sheet) (a .signs .now) (a .out .now) = record { most = pre .0; wide = pre .1; narrow = pre .2; room = pre .3 } in
     let v = c .before .before .before .before .before .before .before .loop .inv in
     page-end-room z v (c .before .before .before .before .before .before .loop-test .left) (c .before .before .before .put-flush .ensures)
 
@@ -93,16 +93,16 @@ same-length : tie.Need-same-length Inv-loop μ-loop
 same-length c =
     let a = c .before .before .before .before .before .before .before .before .before .before .before .before .before .before .args in
     let pre = c .before .before .before .before .before .before .before .before .before .before .before .before .before .before .pre in
-    let z : Sized (a .width) (a .page) (a .signs .now) (a .out .now) = record { most = pre .0; wide = pre .1; narrow = pre .2; room = pre .3 } in
+    let z : Sized (a .sheet) (a .signs .now) (a .out .now) = record { most = pre .0; wide = pre .1; narrow = pre .2; room = pre .3 } in
     let v = c .before .before .before .before .before .before .before .before .before .before .loop .inv in
     let w = whole-written z v (c .before .before .before .before .before .before .before .before .before .loop-test .left) (c .before .before .before .before .before .before .put-flush .ensures) (c .before .before .put-page-end .ensures) in
-    ap length w ∙ length-sets (a .out .now) 0 (volume (a .width) (a .page) (itemsOf (a .width) (a .signs .now)))
+    ap length w ∙ length-sets (a .out .now) 0 (volume (a .sheet) (itemsOf (a .sheet .width) (a .signs .now)))
 
 returns : tie.Need-returns Inv-loop μ-loop
 returns c =
     let a = c .before .before .before .before .before .before .before .before .before .before .before .before .before .before .args in
     let pre = c .before .before .before .before .before .before .before .before .before .before .before .before .before .before .pre in
-    let z : Sized (a .width) (a .page) (a .signs .now) (a .out .now) = record { most = pre .0; wide = pre .1; narrow = pre .2; room = pre .3 } in
+    let z : Sized (a .sheet) (a .signs .now) (a .out .now) = record { most = pre .0; wide = pre .1; narrow = pre .2; room = pre .3 } in
     let v = c .before .before .before .before .before .before .before .before .before .before .loop .inv in
     record { page = whole-written z v (c .before .before .before .before .before .before .before .before .before .loop-test .left) (c .before .before .before .before .before .before .put-flush .ensures) (c .before .before .put-page-end .ensures) }
 

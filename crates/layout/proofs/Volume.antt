@@ -22,57 +22,58 @@ use Rattle.layout.specs.declared.Place.{Place}
 use Rattle.layout.proofs.Lists.{flatten-append}
 use Rattle.layout.proofs.Kept.{Kept, lined, opened, AtEnd, volume-ends, volume-keeps}
 use Rattle.layout.proofs.Counts.{cells-after, length-after, lines-are-64s, pages-are-65s}
+use Rattle.layout.specs.declared.Sheet.{Sheet}
 
--- ---- A sheet, and what a byte does to it: 65 ends the page, 64 the line, and any other goes on the line
+-- ---- The stack of pages so far, and what a byte does to it: 65 ends the page, 64 the line, and any other goes on the line
 
-pub record Sheet : Type 0 where
+pub record Stack : Type 0 where
   pub pages : List Page
   pub lines : List Line
   pub line : Line
 
-abbrev pub unmarked : Sheet
+abbrev pub unmarked : Stack
 unmarked = record { pages = []; lines = []; line = [] }
 
-abbrev pub turned : Sheet → Sheet
+abbrev pub turned : Stack → Stack
 turned s = record { pages = s .pages ++ s .lines ∷ []; lines = []; line = [] }
 
-abbrev pub fed : Sheet → Sheet
+abbrev pub fed : Stack → Stack
 fed s = record { pages = s .pages; lines = s .lines ++ s .line ∷ []; line = [] }
 
-abbrev pub inked : Sheet → List ℕ → Sheet
+abbrev pub inked : Stack → List ℕ → Stack
 inked s cells = record { pages = s .pages; lines = s .lines; line = s .line ++ cells }
 
-unfoldable pub read : Sheet → ℕ → Sheet
+unfoldable pub read : Stack → ℕ → Stack
 read s b = elim (eqb b pageMark) [ true ↦ turned s | false ↦ elim (eqb b lineMark) [ true ↦ fed s | false ↦ inked s (b ∷ []) ] ]
 
-unfoldable pub reads : Sheet → List ℕ → Sheet
+unfoldable pub reads : Stack → List ℕ → Stack
 reads s [] = s
 reads s (b ∷ bytes) = reads (read s b) bytes
 
 -- ---- Laws of reading
 
-pub reads-append : (s : Sheet) (xs ys : List ℕ) → reads s (xs ++ ys) ≡ reads (reads s xs) ys
+pub reads-append : (s : Stack) (xs ys : List ℕ) → reads s (xs ++ ys) ≡ reads (reads s xs) ys
 unfolding reads
 reads-append s [] ys = refl
 reads-append s (x ∷ xs) ys = reads-append (read s x) xs ys
 
-read-cell : (s : Sheet) (c : ℕ) → IsCell c → read s c ≡ inked s (c ∷ [])
+read-cell : (s : Stack) (c : ℕ) → IsCell c → read s c ≡ inked s (c ∷ [])
 unfolding read
 read-cell s c h = rw (ne-eqb c pageMark (λ e. omega arith), ne-eqb c lineMark (λ e. omega arith), read)
 
-pub reads-cells : (s : Sheet) {cells : List ℕ} → All IsCell cells → reads s cells ≡ inked s cells
+pub reads-cells : (s : Stack) {cells : List ℕ} → All IsCell cells → reads s cells ≡ inked s cells
 unfolding reads
 reads-cells s empty = rw append-nil
 reads-cells s (_and_ {x = c} {xs = cells} h hs) = rw (read-cell s c h, reads-cells (inked s (c ∷ [])) hs, append-assoc)
 
 -- the pages that are read are `pagesOf`'s
-pages-read : (s : Sheet) (bytes : List ℕ) → reads s bytes .pages ≡ s .pages ++ pagesFrom (s .lines) (s .line) bytes
+pages-read : (s : Stack) (bytes : List ℕ) → reads s bytes .pages ≡ s .pages ++ pagesFrom (s .lines) (s .line) bytes
 unfolding reads read pagesFrom
 pages-read s [] = sym (append-nil (s .pages))
 pages-read s (b ∷ bytes) = go (eqb b pageMark) (eqb b lineMark) refl refl (λ t. pages-read t bytes)
   where
     go : (m n : Bool) → eqb b pageMark ≡ m → eqb b lineMark ≡ n
-        → ((t : Sheet) → reads t bytes .pages ≡ t .pages ++ pagesFrom (t .lines) (t .line) bytes)
+        → ((t : Stack) → reads t bytes .pages ≡ t .pages ++ pagesFrom (t .lines) (t .line) bytes)
         → reads (read s b) bytes .pages ≡ s .pages ++ pagesFrom (s .lines) (s .line) (b ∷ bytes)
     go true n e f later = rw (e, read, pagesFrom) (rw append-assoc at (later (turned s)))
     go false true e f later = rw (e, f, read, pagesFrom) (later (fed s))
@@ -92,11 +93,11 @@ bytes-of-pages (x ∷ xs) ys = rw (append-assoc, bytes-of-pages xs ys)
 
 -- ---- The invariant
 
-pub record Standing (W P : ℕ) (bytes : List ℕ) (s : Sheet) (p : Place) : Type 0 where
+pub record Standing (sheet : Sheet) (bytes : List ℕ) (s : Stack) (p : Place) : Type 0 where
   pub has : bytesOfPages (s .pages) ++ bytesOfLines (s .lines) ++ s .line ≡ bytes
-  pub pages : All (PageRight W P) (s .pages)
-  pub lines : All (LineRight W) (s .lines)
-  pub line : LineRight W (s .line)
+  pub pages : All (PageRight sheet) (s .pages)
+  pub lines : All (LineRight (sheet .width)) (s .lines)
+  pub line : LineRight (sheet .width) (s .line)
   pub page-count : p .pages ≡ length (s .pages)
   pub line-count : p .lines ≡ length (flatten (s .pages)) + length (s .lines)
   pub on-page : p .line ≡ length (s .lines)
@@ -124,9 +125,9 @@ ends-in-word {w} fits xs front e =
     let z : getD w k 1 ≡ 0 = sym (getD-append-add xs w k 1) ∙ rw (n, e) (getD-append-seam front blankCell [] 1) in
     omega arith
 
-module _ (W P : ℕ) (bytes : List ℕ) (s : Sheet) (p : Place) (st : Standing W P bytes s p) where
-  inked-standing : (blanks : ℕ) (w : List ℕ) → WordFits W w → p .column + blanks + length w ≤ W
-      → Standing W P (bytes ++ cellsAfter blanks w) (inked s (cellsAfter blanks w)) (afterCells p blanks (length w))
+module _ (sheet : Sheet) (bytes : List ℕ) (s : Stack) (p : Place) (st : Standing sheet bytes s p) where
+  inked-standing : (blanks : ℕ) (w : List ℕ) → WordFits (sheet .width) w → p .column + blanks + length w ≤ sheet .width
+      → Standing sheet (bytes ++ cellsAfter blanks w) (inked s (cellsAfter blanks w)) (afterCells p blanks (length w))
   unfolding cellsAfter afterCells
   inked-standing blanks w fits h =
       record {
@@ -145,7 +146,7 @@ module _ (W P : ℕ) (bytes : List ℕ) (s : Sheet) (p : Place) (st : Standing W
         on-line = rw (length-append, length-after blanks w) (omega arith);
       }
 
-  fed-standing : Standing W P (bytes ++ lineMark ∷ []) (fed s) (lined p)
+  fed-standing : Standing sheet (bytes ++ lineMark ∷ []) (fed s) (lined p)
   unfolding bytesOfLines
   fed-standing =
       record {
@@ -159,7 +160,7 @@ module _ (W P : ℕ) (bytes : List ℕ) (s : Sheet) (p : Place) (st : Standing W
         on-line = refl;
       }
 
-  turned-standing : p .column ≡ 0 → 0 < p .line → p .line ≤ P → Standing W P (bytes ++ pageMark ∷ []) (turned s) (afterPage p)
+  turned-standing : p .column ≡ 0 → 0 < p .line → p .line ≤ sheet .length → Standing sheet (bytes ++ pageMark ∷ []) (turned s) (afterPage p)
   unfolding bytesOfLines bytesOfPages flatten afterPage
   turned-standing c l m =
       let nothing : s .line ≡ [] = nil-of-length (s .line) (omega arith) in
@@ -174,7 +175,7 @@ module _ (W P : ℕ) (bytes : List ℕ) (s : Sheet) (p : Place) (st : Standing W
         on-line = refl;
       }
 
-  opened-standing : Standing W P bytes s (opened p)
+  opened-standing : Standing sheet bytes s (opened p)
   opened-standing =
       record {
         has = st .has;
@@ -189,21 +190,21 @@ module _ (W P : ℕ) (bytes : List ℕ) (s : Sheet) (p : Place) (st : Standing W
 
 -- ---- The whole volume
 
-pub standing-kept : (W P : ℕ) → Kept W P (λ bytes words spots p. Standing W P bytes (reads unmarked bytes) p)
+pub standing-kept : (sheet : Sheet) → Kept sheet (λ bytes words spots p. Standing sheet bytes (reads unmarked bytes) p)
 unfolding reads read
-standing-kept W P =
+standing-kept sheet =
     record {
       cells = λ bytes words spots p blanks w fits h r.
           let inks = reads-cells (reads unmarked bytes) (cells-after blanks fits) in
-          rw (reads-append unmarked bytes, inks) (inked-standing W P bytes _ p r blanks w fits h);
-      line = λ bytes words spots p h r. rw (reads-append unmarked bytes) (fed-standing W P bytes _ p r);
-      page = λ bytes words spots p c l m r. rw (reads-append unmarked bytes) (turned-standing W P bytes _ p r c l m);
-      opens = λ bytes words spots p r. opened-standing W P bytes _ p r;
+          rw (reads-append unmarked bytes, inks) (inked-standing sheet bytes _ p r blanks w fits h);
+      line = λ bytes words spots p h r. rw (reads-append unmarked bytes) (fed-standing sheet bytes _ p r);
+      page = λ bytes words spots p c l m r. rw (reads-append unmarked bytes) (turned-standing sheet bytes _ p r c l m);
+      opens = λ bytes words spots p r. opened-standing sheet bytes _ p r;
     }
 
-pub unmarked-standing : (W P : ℕ) → Standing W P [] unmarked start
+pub unmarked-standing : (sheet : Sheet) → Standing sheet [] unmarked start
 unfolding bytesOfPages bytesOfLines flatten
-unmarked-standing W P =
+unmarked-standing sheet =
     record {
       has = refl;
       pages = empty;
@@ -215,20 +216,20 @@ unmarked-standing W P =
       on-line = refl;
     }
 
-module _ (W P : ℕ) (items : List Item) (fits : Fitting W items) (room : 0 < P) where
+module _ (sheet : Sheet) (items : List Item) (fits : Fitting (sheet .width) items) (room : 0 < sheet .length) where
   abbrev bytes : List ℕ
-  bytes = volume W P items
+  bytes = volume sheet items
 
-  read-standing : Standing W P bytes (reads unmarked bytes) (volumeEnd W P items)
+  read-standing : Standing sheet bytes (reads unmarked bytes) (volumeEnd sheet items)
   unfolding reads
-  read-standing = volume-keeps W P _ (standing-kept W P) items fits room (unmarked-standing W P)
+  read-standing = volume-keeps sheet _ (standing-kept sheet) items fits room (unmarked-standing sheet)
 
-  ends : AtEnd (volumeEnd W P items)
+  ends : AtEnd (volumeEnd sheet items)
   unfolding reads
-  ends = volume-ends W P _ (standing-kept W P) items fits room (unmarked-standing W P)
+  ends = volume-ends sheet _ (standing-kept sheet) items fits room (unmarked-standing sheet)
 
   -- the sheet of the volume: its pages, and nothing besides
-  pub volume-sheet : reads unmarked (volume W P items) ≡ record { pages = pagesOf (volume W P items); lines = []; line = [] }
+  pub volume-sheet : reads unmarked (volume sheet items) ≡ record { pages = pagesOf (volume sheet items); lines = []; line = [] }
   unfolding pagesOf
   volume-sheet =
       let st = read-standing in
@@ -240,20 +241,20 @@ module _ (W P : ℕ) (items : List Item) (fits : Fitting W items) (room : 0 < P)
         line = nil-of-length (reads unmarked bytes .line) (omega arith) i;
       }
 
-  standing : Standing W P bytes (record { pages = pagesOf bytes; lines = []; line = [] }) (volumeEnd W P items)
+  standing : Standing sheet bytes (record { pages = pagesOf bytes; lines = []; line = [] }) (volumeEnd sheet items)
   standing = rw volume-sheet at read-standing
 
   -- the pages have the bytes
-  pub pages-have-the-bytes : bytesOfPages (pagesOf (volume W P items)) ≡ volume W P items
+  pub pages-have-the-bytes : bytesOfPages (pagesOf (volume sheet items)) ≡ volume sheet items
   unfolding bytesOfLines
   pages-have-the-bytes = simp append-nil at (standing .has)
 
   -- each page has a line and at most P; each line at most W cells, each at most 63, and no blank at its end
-  pub pages-right : All (PageRight W P) (pagesOf (volume W P items))
+  pub pages-right : All (PageRight sheet) (pagesOf (volume sheet items))
   pages-right = standing .pages
 
-  pub pages-counted : length (pagesOf (volume W P items)) ≡ count pageMark (volume W P items)
-  pages-counted = let c = pages-are-65s W P items fits room in let s = standing in omega arith
+  pub pages-counted : length (pagesOf (volume sheet items)) ≡ count pageMark (volume sheet items)
+  pages-counted = let c = pages-are-65s sheet items fits room in let s = standing in omega arith
 
-  pub lines-counted : length (flatten (pagesOf (volume W P items))) ≡ count lineMark (volume W P items)
-  lines-counted = let c = lines-are-64s W P items fits room in let s = standing in omega arith
+  pub lines-counted : length (flatten (pagesOf (volume sheet items))) ≡ count lineMark (volume sheet items)
+  lines-counted = let c = lines-are-64s sheet items fits room in let s = standing in omega arith
