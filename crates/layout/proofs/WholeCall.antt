@@ -24,7 +24,7 @@ use Rattle.translation.specs.Translate as T
 use Rattle.translation.specs.Promises.{Translated}
 use Rattle.translation.specs.declared.Translation.{Translation}
 use Rattle.translation.specs.declared.Translation.the-variants as t
-use Rattle.translation.proofs.Accepted.{accepted-sound}
+use Rattle.table.proofs.Sound.{accepted-sound}
 use Rattle.translation.proofs.Collapse.{collapsed-at-most}
 use Rattle.translation.proofs.Pieces.{pieces-at-most}
 use Rattle.translation.proofs.Signs.{signs-at-most, signs-printed}

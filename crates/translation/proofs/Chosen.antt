@@ -9,12 +9,12 @@ use native.Mathlib.Omega.{arith}
 use lib.ListN.{length, length-append}
 use lib.Seq.{length-take-le}
 use Rattle.table.specs.Table.{Table}
+use Rattle.table.specs.Sound.{Sound}
 use Rattle.table.proofs.Search.{first-found, first-missing}
 use Rattle.table.proofs.Tests.{clash}
 use Rattle.translation.specs.Decide.{States}
-use Rattle.translation.specs.Choose.{admissible, choice, entry}
+use Rattle.translation.specs.Choose.{admissible, choice, noEntry, entry}
 use Rattle.translation.specs.Pieces.{Piece, characters, pieceBy, frontPiece, piecesIn}
-use Rattle.translation.specs.Sound.{Sound}
 use Rattle.translation.specs.Admissible.{Admissible}
 use Rattle.translation.specs.Chosen.{pieceIn, ByEntry, Chosen}
 use Rattle.translation.specs.declared.Setting.{Setting}
@@ -81,7 +81,7 @@ module _ (table : Table) (setting : Setting) where
             by-letter = λ same. let z : _≡_ {A = ℕ} 0 1 = cc in absurd (omega arith);
           }
 
-  pub piece-takes-shift : Sound table → (text : List ℕ) (i : ℕ) → i < length (piecesIn table setting text)
+  pub piece-takes-shift : {classes variables : ℕ} → Sound classes variables table → (text : List ℕ) (i : ℕ) → i < length (piecesIn table setting text)
       → TakesShift (pieceIn table setting text i)
   unfolding characters
   piece-takes-shift sound text i l = go (p .chosen) refl
@@ -95,6 +95,6 @@ module _ (table : Table) (setting : Setting) where
           record { least = omega arith; taken = ap length (b .one) ∙ sym (b .shift) }
       go (some k) e =
           let b = first-in-order text i l .by-entry k e in
-          let s = sound .entries k (b .there) in
+          let s = sound .entries-right k noEntry (b .there) .shift-right in
           let n = ap length (b .admitted .begins) ∙ length-append (entry table k .string) (b .admitted .after) in
           record { least = omega arith; taken = length-take-le (p .shift) (p .rest) (omega arith) }

@@ -7,11 +7,11 @@ use mathlib.Core.Path.{_≡_, refl, _∙_, ap}
 use native.Mathlib.Omega.{arith}
 use lib.ListN.{length, take, drop, length-drop, take-append-drop}
 use Rattle.table.specs.Table.{Table}
+use Rattle.table.specs.Sound.{Sound}
 use Rattle.table.proofs.Search.{first-found}
 use Rattle.translation.specs.Decide.{States, startStates, moved}
-use Rattle.translation.specs.Choose.{choice}
+use Rattle.translation.specs.Choose.{choice, noEntry}
 use Rattle.translation.specs.Pieces.{characters, pieceBy, frontPiece, piecesFrom, piecesIn}
-use Rattle.translation.specs.Sound.{Sound}
 use Rattle.translation.specs.Chosen.{piece, pieceIn}
 use Rattle.translation.specs.declared.Setting.{Setting}
 use Rattle.translation.proofs.Pieces.{front-rest, next-piece}
@@ -19,7 +19,7 @@ use Rattle.translation.proofs.Pieces.{front-rest, next-piece}
 module _ (table : Table) (setting : Setting) where
   -- ---- The front piece takes a character, and what it takes and leaves is its rest
 
-  front-shift : Sound table → (now : States) (rest : List ℕ) → 1 ≤ frontPiece table setting now rest .shift
+  front-shift : {classes variables : ℕ} → Sound classes variables table → (now : States) (rest : List ℕ) → 1 ≤ frontPiece table setting now rest .shift
   unfolding frontPiece pieceBy choice
   front-shift sound now rest = go (choice table setting now rest) refl
     where
@@ -27,7 +27,7 @@ module _ (table : Table) (setting : Setting) where
       go none e = omega arith
       go (some k) e =
           let f = first-found _ 0 (length (table .entries)) k e in
-          sound .entries k (omega arith) .shift-least
+          sound .entries-right k noEntry (omega arith) .shift-right .low
 
   front-and-left : (now : States) (rest : List ℕ)
       → characters (frontPiece table setting now rest) ++ drop (frontPiece table setting now rest .shift) rest ≡ rest
@@ -36,7 +36,7 @@ module _ (table : Table) (setting : Setting) where
 
   -- ---- All pieces
 
-  pub consumed : Sound table → (text : List ℕ) → flatten (map characters (piecesIn table setting text)) ≡ text
+  pub consumed : {classes variables : ℕ} → Sound classes variables table → (text : List ℕ) → flatten (map characters (piecesIn table setting text)) ≡ text
   unfolding piecesIn piecesFrom flatten
   consumed sound text = go (length text) (startStates table) text (omega arith)
     where

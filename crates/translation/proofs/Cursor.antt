@@ -13,7 +13,7 @@ use Rattle.translation.specs.Decide.{States, startStates, moved}
 use Rattle.translation.specs.Pieces.{Piece, frontPiece, piecesFrom, piecesIn, printed, signsOf}
 use Rattle.translation.specs.Opened.{Opened}
 use Rattle.translation.specs.States.{statesIn}
-use Rattle.translation.specs.Inside.{Wrote, MadeAs, Consumed}
+use Rattle.translation.specs.Inside.{WroteUntil, MadeAs, Consumed}
 use Rattle.translation.specs.declared.Setting.{Setting}
 use Rattle.translation.specs.declared.variables.States.{States as Held}
 use Rattle.translation.specs.declared.piecing.Piece.{Piece as MadePiece}
@@ -52,7 +52,7 @@ module _ (image : List ℕ) (s : Sections) (setting : Setting) (text before : Li
 
   pub record Piecing (after : List ℕ) (held : Held) (at pieces next : ℕ) : Type 0 where
     pub done : List ℕ
-    pub wrote : Wrote before 0 done after next
+    pub wrote : WroteUntil before 0 done after next
     pub four-each : next ≤ entrySigns * pieces
     pub passed : pieces ≤ at
     pub within : at ≤ length text
@@ -118,5 +118,5 @@ module _ (image : List ℕ) (s : Sections) (setting : Setting) (text before : Li
         record {
           counted = omega (arith, p .counted, ap length ended);
           wrote =
-              subst (λ (xs : List ℕ). Wrote before 0 xs after next) (sym (append-nil (p .done)) ∙ rw ended at (p .signs)) (p .wrote);
+              subst (λ (xs : List ℕ). WroteUntil before 0 xs after next) (sym (append-nil (p .done)) ∙ rw ended at (p .signs)) (p .wrote);
         }

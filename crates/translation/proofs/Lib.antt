@@ -1,5 +1,4 @@
 pub mod Example
-pub mod Loops
 pub mod Records
 pub mod Entries
 pub mod Moving
@@ -20,5 +19,4 @@ pub mod Fronts
 pub mod Cursor
 pub mod Outcomes
 pub mod Promises
-pub mod Answered
 pub mod Accepted

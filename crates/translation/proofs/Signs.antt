@@ -3,6 +3,7 @@
 use Prim.Native.Nat.{ℕ, suc, _*_, _≤_, _<_}
 use mathlib.Core.Bool.{Bool, true, false, cond}
 use mathlib.Core.List.{List, [], _∷_}
+use mathlib.Core.Logic.{inl, inr, ⊎-elim}
 use mathlib.Core.Option.{Option, none, some}
 use mathlib.Core.Path.{_≡_, refl, ap}
 use native.Mathlib.Omega.{arith}
@@ -11,14 +12,15 @@ use lib.ListN.{length, getD, length-append}
 use borrow.Author.Tests.{eqb-false}
 use Rattle.table.specs.Numbers.{blankCell, otherBlank, noCell, entrySigns}
 use Rattle.table.specs.Table.{Table, Letter}
+use Rattle.table.specs.Refusals.{IsLetterSign, IsEntrySign}
+use Rattle.table.specs.Sound.{Sound}
 use Rattle.table.proofs.Search.{first-found}
 use Rattle.table.specs.Lists.{All, empty, _and_}
 use Rattle.table.proofs.Lists.{all-at, all-of-places, all-append}
 use Rattle.translation.specs.Letters.{noLetter, letter, letterOf, letterFor}
-use Rattle.translation.specs.Choose.{entry}
+use Rattle.translation.specs.Choose.{noEntry, entry}
 use Rattle.translation.specs.Pieces.{Piece, piecesIn, printed, signsOf}
-use Rattle.translation.specs.Signs.{LetterSign, cell-or-blank, no-cell, EntrySign, as-letter, format-sign, PrintedSign, cell, format}
-use Rattle.translation.specs.Sound.{Sound}
+use Rattle.translation.specs.Signs.{PrintedSign, cell, format}
 use Rattle.translation.specs.Chosen.{noPiece, pieceIn}
 use Rattle.translation.specs.declared.Setting.{Setting}
 use Rattle.translation.proofs.Chosen.{first-in-order}
@@ -26,16 +28,16 @@ use Rattle.translation.proofs.Chosen.{first-in-order}
 -- ---- Printing
 
 -- a right sign that isn't 99, 64 as the blank
-one-printed : (g : ℕ) → EntrySign g → (g ≡ noCell → ⊥) → PrintedSign (cond (eqb g otherBlank) blankCell g)
+one-printed : (g : ℕ) → IsEntrySign g → (g ≡ noCell → ⊥) → PrintedSign (cond (eqb g otherBlank) blankCell g)
 one-printed g right here = go (eqb g otherBlank) refl right
   where
-    go : (b : Bool) → eqb g otherBlank ≡ b → EntrySign g → PrintedSign (cond b blankCell g)
+    go : (b : Bool) → eqb g otherBlank ≡ b → IsEntrySign g → PrintedSign (cond b blankCell g)
     go true e r = cell (omega arith)
-    go false e (as-letter (cell-or-blank h)) = let n = eqb-false g otherBlank e in cell (omega arith)
-    go false e (as-letter (no-cell h)) = absurd (here h)
-    go false e (format-sign h k) = format h k
+    go false e (inl h) = let n = eqb-false g otherBlank e in cell (omega arith)
+    go false e (inr (inl b)) = format (b .low) (b .high)
+    go false e (inr (inr h)) = absurd (here h)
 
-all-printed : {signs : List ℕ} → All EntrySign signs → All PrintedSign (printed signs)
+all-printed : {signs : List ℕ} → All IsEntrySign signs → All PrintedSign (printed signs)
 unfolding printed
 all-printed empty = empty
 all-printed (_and_ {x = g} {xs = signs} r rs) = go (eqb g noCell) refl (all-printed rs)
@@ -65,21 +67,21 @@ no-cells-print-nothing (g ∷ signs) h = rw (h 0 (omega arith)) (no-cells-print-
 
 record RightSigns (p : Piece) : Type 0 where
   at-most-four : length (p .signs) ≤ entrySigns
-  right : All EntrySign (p .signs)
+  right : All IsEntrySign (p .signs)
 
-module _ (table : Table) (sound : Sound table) where
-  letter-sign : (c : ℕ) → LetterSign (letterFor (table .letters) c .sign)
+module _ {classes variables : ℕ} (table : Table) (sound : Sound classes variables table) where
+  letter-sign : (c : ℕ) → IsLetterSign (letterFor (table .letters) c .sign)
   unfolding letterFor letterOf
   letter-sign c = go (letterOf (table .letters) c) refl
     where
       found : Option ℕ → Letter
       found o = elim o [ none ↦ noLetter | some k ↦ letter (table .letters) k ]
 
-      go : (o : Option ℕ) → letterOf (table .letters) c ≡ o → LetterSign (found o .sign)
-      go none e = no-cell refl
+      go : (o : Option ℕ) → letterOf (table .letters) c ≡ o → IsLetterSign (found o .sign)
+      go none e = inr refl
       go (some k) e =
           let f = first-found (λ k. eqb (letter (table .letters) k .symbol) c) 0 (length (table .letters)) k e in
-          sound .letters k (omega arith)
+          sound .letters-right k noLetter (omega arith) .sign-right
 
   right-signs : (setting : Setting) (text : List ℕ) (i : ℕ) → i < length (piecesIn table setting text) → RightSigns (pieceIn table setting text i)
   right-signs setting text i l = go (p .chosen) refl
@@ -91,12 +93,12 @@ module _ (table : Table) (sound : Sound table) where
       go none e =
           let b = first-in-order table setting text i l .by-letter e in
           let n = ap length (b .sign) in
-          record { at-most-four = omega arith; right = rw (b .sign) (as-letter (letter-sign (b .front)) and empty) }
+          record { at-most-four = omega arith; right = rw (b .sign) (⊎-elim inl (λ e. inr (inr e)) (letter-sign (b .front)) and empty) }
       go (some k) e =
           let b = first-in-order table setting text i l .by-entry k e in
-          let s = sound .entries k (b .there) in
+          let s = sound .entries-right k noEntry (b .there) in
           let n = ap length (b .signs) in
-          record { at-most-four = omega arith; right = rw (b .signs) (all-of-places (entry table k .signs) noCell (s .signs)) }
+          record { at-most-four = omega arith; right = rw (b .signs) (all-of-places (entry table k .signs) noCell (λ i u. s .signs-right i noCell u)) }
 
   -- ---- The signs of all pieces
 

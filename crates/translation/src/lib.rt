@@ -17,12 +17,6 @@ pub struct Setting {
     pub following: u8,
 }
 
-// What a search answers: the number of a record, or a place of the text.
-pub(crate) enum Found {
-    At(u16),
-    Nothing,
-}
-
 // What a translation answers: how many pieces and how many signs, or the refusal, with its place where it isn't fixed.
 pub enum Translation {
     Table(Fault),

@@ -1,42 +1,35 @@
 -- `translation::deciding::conditions_hold` meets its contract. The loop's invariant: no variable before `v` fails its condition.
+use borrow.Author.Count.{below-more}
 use borrow.Author.Needs.{needs}
 use Prim.Native.Nat.{ℕ, _≤_, _<_, _-_}
-use mathlib.Core.Bool.{Bool, not}
+use mathlib.Core.Bool.{Bool, false, not}
 use mathlib.Core.List.{List}
 use mathlib.Core.Option.{Option}
 use mathlib.Core.Path.{_≡_, sym, _∙_, ap}
 use native.Mathlib.Omega.{arith}
-use lib.ListN.{length, getD}
+use lib.ListN.{getD}
 use Rattle.table.specs.Numbers.{dash}
 use Rattle.table.specs.Search.{isThere}
 use Rattle.table.specs.Table.{columnAt}
 use Rattle.table.specs.declared.Sections.{Sections}
+use Rattle.table.proofs.Search.{found-first, found-none}
+use Rattle.table.proofs.Sound.{sound-column}
 use Rattle.translation.specs.Decide.{States, state, conditionHolds, conditionsHold}
-use Rattle.translation.specs.Opened.{Opened}
 use Rattle.translation.specs.States.{statesIn}
-use Rattle.translation.proofs.Loops.{NoneBelow, none-yet, none-more, found-first, found-none}
-use Rattle.table.proofs.Reading.{part-long}
 use Rattle.translation.proofs.deciding.conditions_hold.Statement.{statement}
 use Rattle.translation.proofs.deciding.conditions_hold.Tie as tie
 
 abbrev fails : List ℕ → Sections → States → ℕ → ℕ → Bool
 fails image s states k v = not (conditionHolds (getD (columnAt image s k .conditions) v dash) (state states v))
 
-conditions-long : (image : List ℕ) (s : Sections) (k : ℕ) → Opened image s → k < s .decisions .records
-    → length (columnAt image s k .conditions) ≡ s .variables
-unfolding columnAt
-conditions-long image s k o l =
-    let d = o .laid .decisions-laid .lies k l in
-    part-long image (s .decisions) k (s .classes) (s .variables) (omega arith)
-
 abbrev Inv-loop : tie.InvT-loop
-Inv-loop image s states k variables v₀ v = (v ≤ variables) × NoneBelow (fails image s (statesIn s states) k) v
+Inv-loop image s states k variables v₀ v = (v ≤ variables) × ((j : ℕ) → j < v → fails image s (statesIn s states) k j ≡ false)
 
 abbrev μ-loop : tie.MeasureT-loop
 μ-loop image s states k variables v₀ v = variables - v
 
 loop-holds : tie.Need-loop-holds Inv-loop μ-loop
-loop-holds c = (omega arith, none-yet _)
+loop-holds c = (omega arith, λ j u. absurd (omega arith))
 
 condition-holds-requires : tie.Need-condition-holds-requires Inv-loop μ-loop
 condition-holds-requires c κs = search needs
@@ -47,7 +40,7 @@ returns c =
     let start = c .before .before .before .before .before in
     let a = start .args in
     let l = c .before .before .before .loop in
-    let e = conditions-long (a .image .now) (a .s) (a .k) (start .pre .0) (start .pre .1) in
+    let e = sound-column (a .image .now) (a .s) (start .pre .0 .laid) (start .pre .0 .right) (a .k) (start .pre .1) .by-variable in
     let test = fails (a .image .now) (a .s) (statesIn (a .s) (a .states)) (a .k) in
     sym
     (ap (λ (o : Option ℕ). not (isThere o))
@@ -61,14 +54,14 @@ loop-less c = omega arith
 
 loop-again : tie.Need-loop-again Inv-loop μ-loop
 loop-again c =
-    (omega arith, none-more _ _ (c .before .before .before .loop .inv .1) (ap not (sym (c .before .condition-holds .ensures)) ∙ c .if1 .left))
+    (omega arith, below-more _ _ (c .before .before .before .loop .inv .1) (ap not (sym (c .before .condition-holds .ensures)) ∙ c .if1 .left))
 
 returns-2 : tie.Need-returns-2 Inv-loop μ-loop
 unfolding conditionsHold
 returns-2 c =
     let start = c .before .before .before in
     let a = start .args in
-    let e = conditions-long (a .image .now) (a .s) (a .k) (start .pre .0) (start .pre .1) in
+    let e = sound-column (a .image .now) (a .s) (start .pre .0 .laid) (start .pre .0 .right) (a .k) (start .pre .1) .by-variable in
     sym (ap (λ (o : Option ℕ). not (isThere o)) (found-none _ _ _ (c .before .loop .inv .1) (omega arith)))
 
 pub conditions-hold-spec : {M : Type 1} → statement M
