@@ -108,6 +108,10 @@ module _ (image : List ℕ) (s : Sections) (laid : SectionsLaid image s) (right 
         nothing-after = λ i j d u v e. sign-at j d v ∙ r .nothing-after i j u v (sym (sign-at i d (omega arith)) ∙ e);
       }
 
+  pub sound-entries : EachOf (SoundEntry (s .classes) (length (tableIn image s .contexts)) (tableIn image s .letters)) (tableIn image s .entries)
+  unfolding tableIn
+  sound-entries = each-of-list (SoundEntry (s .classes) _ _) (entryAt image s) _ sound-entry
+
   sound-context : (k : ℕ) → k < s .contexts .records → SoundContext (s .classes) (contextAt image s k)
   unfolding contextAt sectionNamed
   sound-context k l =
@@ -158,7 +162,7 @@ module _ (image : List ℕ) (s : Sections) (laid : SectionsLaid image s) (right 
         letters-right = each-of-list (SoundLetter (s .classes)) (letterAt image s) _ sound-letter;
         symbols-differ = symbols-differ;
         blank-known = has-letter known;
-        entries-right = each-of-list (SoundEntry (s .classes) _ _) (entryAt image s) _ sound-entry;
+        entries-right = sound-entries;
         contexts-right = each-of-list (SoundContext (s .classes)) (contextAt image s) _ sound-context;
         transitions-right = each-of-list (SoundTransition (s .classes)) (transitionAt image s) _ sound-transition;
         columns-right = each-of-list (SoundColumn (s .classes) (s .variables)) (columnAt image s) _ sound-column;

@@ -8,12 +8,12 @@ use native.Mathlib.Numerals.{sub-one}
 use native.Mathlib.Omega.{arith}
 use lib.ListN.{length, getD}
 use borrow.Author.Tests.{eq-eqb, ne-eqb}
-use Rattle.table.specs.Numbers.{lengthByte, stringByte, contextByte, signsByte, entrySigns, leastShift, noContext, contextSize}
+use Rattle.table.specs.Numbers.{lengthByte, stringByte, contextByte, signsByte, entrySigns, noContext, contextSize}
 use Rattle.table.specs.Search.{member}
 use Rattle.table.specs.Records.{contractions, sectionNamed}
 use Rattle.table.specs.Sections.{recordByte}
 use Rattle.table.specs.Promises.{partWithin}
-use Rattle.table.specs.Refusals.{Between, ContextExists, RightEntry}
+use Rattle.table.specs.Refusals.{ContextExists, RightEntry}
 use Rattle.table.specs.Table.{tableIn, entryAt}
 use Rattle.table.specs.declared.Sections.{Sections}
 use Rattle.table.proofs.Reading.{part-long, part-within, part-at, entry-at, string-inside, signs-inside, context-within}
@@ -31,23 +31,14 @@ module _ (image : List ℕ) (s : Sections) (opened : Opened image s) (k : ℕ) (
   unfolding sectionNamed
   right = opened .right contractions k there
 
-  pub string-long : length (entryAt image s k .string) ≡ byte lengthByte
+  string-long : length (entryAt image s k .string) ≡ byte lengthByte
   unfolding entryAt
   string-long = part-long image (s .contractions) k stringByte (byte lengthByte) (string-inside image s (opened .laid) (opened .right) k there)
-
-  pub signs-long : length (entryAt image s k .signs) ≡ entrySigns
-  unfolding entryAt
-  signs-long =
-      part-long image (s .contractions) k signsByte entrySigns (signs-inside image s (opened .laid) (opened .right) k there)
 
   pub signs-read : partWithin image (s .contractions) k signsByte entrySigns ≡ entryAt image s k .signs
   unfolding entryAt
   signs-read =
       part-within image (s .contractions) k signsByte entrySigns (signs-inside image s (opened .laid) (opened .right) k there)
-
-  pub shift-right : Between leastShift (length (entryAt image s k .string)) (entryAt image s k .shift)
-  unfolding entryAt
-  shift-right = let r = right .shift-right in let e = string-long in record { low = r .low; high = omega arith }
 
   -- ---- The right context
 

@@ -5,7 +5,7 @@ use mathlib.Core.Bool.{Bool, true, false, cond}
 use mathlib.Core.List.{List, [], _∷_}
 use mathlib.Core.Logic.{inl, inr, ⊎-elim}
 use mathlib.Core.Option.{Option, none, some}
-use mathlib.Core.Path.{_≡_, refl, ap}
+use mathlib.Core.Path.{_≡_, refl}
 use native.Mathlib.Omega.{arith}
 use lib.Dec.{eqb}
 use lib.ListN.{length, getD, length-append}
@@ -23,7 +23,7 @@ use Rattle.translation.specs.Pieces.{Piece, piecesIn, printed, signsOf}
 use Rattle.translation.specs.Signs.{PrintedSign, cell, format}
 use Rattle.translation.specs.Chosen.{noPiece, pieceIn}
 use Rattle.translation.specs.declared.Setting.{Setting}
-use Rattle.translation.proofs.Chosen.{first-in-order}
+use Rattle.translation.proofs.Chosen.{first-in-order, chosen-fits}
 
 -- ---- Printing
 
@@ -65,10 +65,6 @@ no-cells-print-nothing (g ∷ signs) h = rw (h 0 (omega arith)) (no-cells-print-
 
 -- ---- The signs of a piece
 
-record RightSigns (p : Piece) : Type 0 where
-  at-most-four : length (p .signs) ≤ entrySigns
-  right : All IsEntrySign (p .signs)
-
 module _ {classes variables : ℕ} (table : Table) (sound : Sound classes variables table) where
   letter-sign : (c : ℕ) → IsLetterSign (letterFor (table .letters) c .sign)
   unfolding letterFor letterOf
@@ -83,43 +79,38 @@ module _ {classes variables : ℕ} (table : Table) (sound : Sound classes variab
           let f = first-found (λ k. eqb (letter (table .letters) k .symbol) c) 0 (length (table .letters)) k e in
           sound .letters-right k noLetter (omega arith) .sign-right
 
-  right-signs : (setting : Setting) (text : List ℕ) (i : ℕ) → i < length (piecesIn table setting text) → RightSigns (pieceIn table setting text i)
-  right-signs setting text i l = go (p .chosen) refl
+  right-signs : (setting : Setting) (text : List ℕ) (i : ℕ) → i < length (piecesIn table setting text)
+      → All IsEntrySign (pieceIn table setting text i .signs)
+  right-signs setting text i l = go (pieceIn table setting text i .chosen) refl
     where
-      p : Piece
-      p = pieceIn table setting text i
-
-      go : (o : Option ℕ) → p .chosen ≡ o → RightSigns p
+      go : (o : Option ℕ) → pieceIn table setting text i .chosen ≡ o → All IsEntrySign (pieceIn table setting text i .signs)
       go none e =
           let b = first-in-order table setting text i l .by-letter e in
-          let n = ap length (b .sign) in
-          record { at-most-four = omega arith; right = rw (b .sign) (⊎-elim inl (λ e. inr (inr e)) (letter-sign (b .front)) and empty) }
+          rw (b .sign) (⊎-elim inl (λ e. inr (inr e)) (letter-sign (b .front)) and empty)
       go (some k) e =
           let b = first-in-order table setting text i l .by-entry k e in
-          let s = sound .entries-right k noEntry (b .there) in
-          let n = ap length (b .signs) in
-          record { at-most-four = omega arith; right = rw (b .signs) (all-of-places (entry table k .signs) noCell (λ i u. s .signs-right i noCell u)) }
+          rw (b .signs) (all-of-places (entry table k .signs) noCell (λ j u. sound .entries-right k noEntry (b .there) .signs-right j noCell u))
 
   -- ---- The signs of all pieces
-
-  all-right : (setting : Setting) (text : List ℕ) → All RightSigns (piecesIn table setting text)
-  all-right setting text = all-of-places (piecesIn table setting text) noPiece (right-signs setting text)
 
   pub signs-printed : (setting : Setting) (text : List ℕ) (i : ℕ) → i < length (signsOf (piecesIn table setting text))
       → PrintedSign (getD (signsOf (piecesIn table setting text)) i 0)
   unfolding signsOf
-  signs-printed setting text i l = all-at (all-signs (all-right setting text)) i 0 l
+  signs-printed setting text i l = all-at (all-signs (all-of-places (piecesIn table setting text) noPiece (right-signs setting text))) i 0 l
     where
-      all-signs : {ps : List Piece} → All RightSigns ps → All PrintedSign (signsOf ps)
+      all-signs : {ps : List Piece} → All (λ (p : Piece). All IsEntrySign (p .signs)) ps → All PrintedSign (signsOf ps)
       all-signs empty = empty
-      all-signs (r and rs) = all-append (all-printed (r .right)) (all-signs rs)
+      all-signs (r and rs) = all-append (all-printed r) (all-signs rs)
 
   pub signs-at-most : (setting : Setting) (text : List ℕ)
       → length (signsOf (piecesIn table setting text)) ≤ entrySigns * length (piecesIn table setting text)
   unfolding signsOf
-  signs-at-most setting text = go (all-right setting text)
+  signs-at-most setting text =
+      go
+      (all-of-places (piecesIn table setting text) noPiece
+      (λ i l. chosen-fits table setting (sound .entries-right) (first-in-order table setting text i l) .few))
     where
-      go : {ps : List Piece} → All RightSigns ps → length (signsOf ps) ≤ entrySigns * length ps
+      go : {ps : List Piece} → All (λ (p : Piece). length (p .signs) ≤ entrySigns) ps → length (signsOf ps) ≤ entrySigns * length ps
       go empty = omega arith
       go (_and_ {x = p} {xs = ps} r rs) =
           let h = printed-at-most (p .signs) in

@@ -1,29 +1,28 @@
--- `translation::deciding::conditions_hold` meets its contract. The loop's invariant: no variable before `v` fails its condition.
+-- `translation::deciding::conditions_hold` meets its contract. The loop's invariant: every variable before `v` meets its condition.
 use borrow.Author.Count.{below-more}
 use borrow.Author.Needs.{needs}
+use borrow.Author.Tests.{not-true, not-false}
 use Prim.Native.Nat.{ℕ, _≤_, _<_, _-_}
-use mathlib.Core.Bool.{Bool, false, not}
+use mathlib.Core.Bool.{Bool, true}
 use mathlib.Core.List.{List}
-use mathlib.Core.Option.{Option}
-use mathlib.Core.Path.{_≡_, sym, _∙_, ap}
+use mathlib.Core.Path.{_≡_, sym, _∙_}
 use native.Mathlib.Omega.{arith}
 use lib.ListN.{getD}
 use Rattle.table.specs.Numbers.{dash}
-use Rattle.table.specs.Search.{isThere}
 use Rattle.table.specs.Table.{columnAt}
 use Rattle.table.specs.declared.Sections.{Sections}
-use Rattle.table.proofs.Search.{found-first, found-none}
 use Rattle.table.proofs.Sound.{sound-column}
+use Rattle.table.proofs.Tests.{every-law, every-fails}
 use Rattle.translation.specs.Decide.{States, state, conditionHolds, conditionsHold}
 use Rattle.translation.specs.States.{statesIn}
 use Rattle.translation.proofs.deciding.conditions_hold.Statement.{statement}
 use Rattle.translation.proofs.deciding.conditions_hold.Tie as tie
 
-abbrev fails : List ℕ → Sections → States → ℕ → ℕ → Bool
-fails image s states k v = not (conditionHolds (getD (columnAt image s k .conditions) v dash) (state states v))
+abbrev met : List ℕ → Sections → States → ℕ → ℕ → Bool
+met image s states k v = conditionHolds (getD (columnAt image s k .conditions) v dash) (state states v)
 
 abbrev Inv-loop : tie.InvT-loop
-Inv-loop image s states k variables v₀ v = (v ≤ variables) × ((j : ℕ) → j < v → fails image s (statesIn s states) k j ≡ false)
+Inv-loop image s states k variables v₀ v = (v ≤ variables) × ((j : ℕ) → j < v → met image s (statesIn s states) k j ≡ true)
 
 abbrev μ-loop : tie.MeasureT-loop
 μ-loop image s states k variables v₀ v = variables - v
@@ -41,10 +40,10 @@ returns c =
     let a = start .args in
     let l = c .before .before .before .loop in
     let e = sound-column (a .image .now) (a .s) (start .pre .0 .laid) (start .pre .0 .right) (a .k) (start .pre .1) .by-variable in
-    let test = fails (a .image .now) (a .s) (statesIn (a .s) (a .states)) (a .k) in
+    let holds = c .before .condition-holds in
     sym
-    (ap (λ (o : Option ℕ). not (isThere o))
-    (found-first test _ (l .v) (l .inv .1) (omega arith) (ap not (sym (c .before .condition-holds .ensures)) ∙ c .if1 .taken)))
+    (every-fails (met (a .image .now) (a .s) (statesIn (a .s) (a .states)) (a .k)) _ (l .v) (omega arith)
+    (sym (holds .ensures) ∙ not-true (holds .result) (c .if1 .taken)))
 
 add-v : tie.Need-add-v Inv-loop μ-loop
 add-v c = search needs
@@ -54,7 +53,8 @@ loop-less c = omega arith
 
 loop-again : tie.Need-loop-again Inv-loop μ-loop
 loop-again c =
-    (omega arith, below-more _ _ (c .before .before .before .loop .inv .1) (ap not (sym (c .before .condition-holds .ensures)) ∙ c .if1 .left))
+    let holds = c .before .condition-holds in
+    (omega arith, below-more _ _ (c .before .before .before .loop .inv .1) (sym (holds .ensures) ∙ not-false (holds .result) (c .if1 .left)))
 
 returns-2 : tie.Need-returns-2 Inv-loop μ-loop
 unfolding conditionsHold
@@ -62,7 +62,7 @@ returns-2 c =
     let start = c .before .before .before in
     let a = start .args in
     let e = sound-column (a .image .now) (a .s) (start .pre .0 .laid) (start .pre .0 .right) (a .k) (start .pre .1) .by-variable in
-    sym (ap (λ (o : Option ℕ). not (isThere o)) (found-none _ _ _ (c .before .loop .inv .1) (omega arith)))
+    sym (every-law (met (a .image .now) (a .s) (statesIn (a .s) (a .states)) (a .k)) _ .1 (λ j u. c .before .loop .inv .1 j (omega arith)))
 
 pub conditions-hold-spec : {M : Type 1} → statement M
 conditions-hold-spec =
