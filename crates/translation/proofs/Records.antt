@@ -2,14 +2,14 @@
 use Prim.Native.Nat.{ℕ, _+_, _≤_, _<_}
 use mathlib.Core.List.{List, [], _∷_}
 use mathlib.Core.Option.{Option, none, some}
-use mathlib.Core.Path.{_≡_, refl, _∙_, ap}
+use mathlib.Core.Path.{_≡_, _∙_, ap}
 use native.Mathlib.Numerals.{add-one}
 use native.Mathlib.Omega.{arith}
 use lib.Dec.{eqb}
 use lib.ListN.{length, drop, drop-of-length-le}
 use lib.Seq.{drop-cons}
 use Rattle.table.specs.Numbers.{symbolByte}
-use Rattle.table.specs.Sections.{recordByte, recordPart}
+use Rattle.table.specs.Sections.{recordByte}
 use Rattle.table.specs.Table.{Letter, tableIn, letterAt, columnAt}
 use Rattle.table.specs.declared.Sections.{Sections}
 use Rattle.table.proofs.Search.{first-found}
@@ -40,10 +40,6 @@ module _ (image : List ℕ) (s : Sections) where
   letter-for-missing c e = ap (letter-or-none (tableIn image s .letters)) e
 
   -- ---- The decisions
-
-  pub by-class : (k : ℕ) → columnAt image s k .byClass ≡ recordPart image (s .decisions) k 0 (s .classes)
-  unfolding columnAt
-  by-class k = refl
 
   pub columns-from : (k : ℕ) → k < s .decisions .records
       → drop k (tableIn image s .decisions) ≡ columnAt image s k ∷ drop (k + 1) (tableIn image s .decisions)
