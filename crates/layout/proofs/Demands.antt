@@ -14,7 +14,7 @@ use Rattle.table.specs.Lists.{All}
 use Rattle.translation.specs.Collapse.{collapsed}
 use Rattle.translation.specs.Pieces.{characters, piecesOf, signsOf}
 use Rattle.translation.specs.declared.Setting.{Setting}
-use Rattle.translation.proofs.Accepted.{accepted-sound}
+use Rattle.table.proofs.Sound.{accepted-sound}
 use Rattle.translation.proofs.Consumed.{consumed}
 use Rattle.translation.proofs.Signs.{signs-printed}
 use Rattle.layout.specs.Numbers.{leastWidth, mostWidth, leastPage, mostPage, lineMark, pageMark}

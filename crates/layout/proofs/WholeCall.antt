@@ -13,7 +13,7 @@ use Rattle.translation.specs.Translate.{blankFollows, Result, made, refused as 
 use Rattle.translation.specs.Promises.{Translated}
 use Rattle.translation.specs.declared.Translation.{Translation}
 use Rattle.translation.specs.declared.Translation.the-variants as t
-use Rattle.translation.proofs.Accepted.{accepted-sound}
+use Rattle.table.proofs.Sound.{accepted-sound}
 use Rattle.translation.proofs.Collapse.{collapsed-at-most}
 use Rattle.translation.proofs.Outcomes.{made-means}
 use Rattle.translation.proofs.Pieces.{pieces-at-most}

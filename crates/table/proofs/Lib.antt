@@ -1,5 +1,6 @@
 pub mod Search
 pub mod Lists
+pub mod Wrote
 pub mod Tests
 pub mod Frame
 pub mod RightRecords

@@ -105,6 +105,15 @@ module _ (test : ℕ → Bool) where
       go j (yes v) earlier u = earlier v
       go j (no d) earlier u = subst (λ (x : ℕ). test x ≡ false) (omega arith) t
 
+  -- ---- A loop that searches from the front: no number before `k` passes
+
+  pub found-first : (n k : ℕ) → ((j : ℕ) → j < k → test j ≡ false) → k < n → test k ≡ true → firstFrom test 0 n ≡ some k
+  found-first n k fails l t =
+      first-is 0 n k (record { low = omega arith; high = omega arith; passes = t; earlier = λ j _ u. fails j u })
+
+  pub found-none : (n k : ℕ) → ((j : ℕ) → j < k → test j ≡ false) → n ≤ k → firstFrom test 0 n ≡ none
+  found-none n k fails l = first-is-not 0 n (λ j _ u. fails j (omega arith))
+
 -- ---- What the code answers tells what the search finds
 
 pub found-at : (o : Option ℕ) (k : ℕ) → found o ≡ At k → o ≡ some k

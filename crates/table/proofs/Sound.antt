@@ -12,11 +12,11 @@ use Rattle.table.specs.Sections.{sectionsOf, offset, recordByte, recordP
 use Rattle.table.specs.Numbers.{stringByte, signsByte, entrySigns, contextSize, blank}
 use Rattle.table.specs.Records.{alphabet, contractions, contexts, transitions, decisions, sectionNamed}
 use Rattle.table.specs.Refusals.{IsClass, IsEntrySign, IsTransition, IsDecision, IsCondition, ContextExists, symbolOf, InAlphabet, RecordsRight}
-use Rattle.table.specs.Table.{Letter, letterAt, entryAt, contextAt, transitionAt, columnAt, tableIn, tableOf}
+use Rattle.table.specs.Table.{Letter, HasLetter, letterAt, entryAt, contextAt, transitionAt, columnAt, tableIn, tableOf}
 use Rattle.table.specs.Grouping.{Grouped}
 use Rattle.table.specs.Verdict.{strings, verdictOf}
 use Rattle.table.specs.Laid.{SectionsLaid}
-use Rattle.table.specs.Sound.{EachOf, HasLetter, SoundLetter, SoundEntry, SoundContext, SoundTransition, SoundColumn, Sound}
+use Rattle.table.specs.Sound.{EachOf, SoundLetter, SoundEntry, SoundContext, SoundTransition, SoundColumn, Sound}
 use Rattle.table.specs.declared.Section.{Section}
 use Rattle.table.specs.declared.Sections.{Sections}
 use Rattle.table.specs.declared.Verdict.the-variants.{Accepted}
@@ -84,7 +84,7 @@ module _ (image : List ℕ) (s : Sections) (laid : SectionsLaid image s) (right 
   context-counted c (inl e) = omega arith
   context-counted c (inr h) = omega arith
 
-  sound-entry : (k : ℕ) → k < s .contractions .records
+  pub sound-entry : (k : ℕ) → k < s .contractions .records
       → SoundEntry (s .classes) (length (tableIn image s .contexts)) (tableIn image s .letters) (entryAt image s k)
   unfolding entryAt sectionNamed
   sound-entry k l =
@@ -108,6 +108,10 @@ module _ (image : List ℕ) (s : Sections) (laid : SectionsLaid image s) (right 
         nothing-after = λ i j d u v e. sign-at j d v ∙ r .nothing-after i j u v (sym (sign-at i d (omega arith)) ∙ e);
       }
 
+  pub sound-entries : EachOf (SoundEntry (s .classes) (length (tableIn image s .contexts)) (tableIn image s .letters)) (tableIn image s .entries)
+  unfolding tableIn
+  sound-entries = each-of-list (SoundEntry (s .classes) _ _) (entryAt image s) _ sound-entry
+
   sound-context : (k : ℕ) → k < s .contexts .records → SoundContext (s .classes) (contextAt image s k)
   unfolding contextAt sectionNamed
   sound-context k l =
@@ -128,7 +132,7 @@ module _ (image : List ℕ) (s : Sections) (laid : SectionsLaid image s) (right 
             (λ i u. rw (zero-add i) (right transitions k l .bytes-right i u));
       }
 
-  sound-column : (k : ℕ) → k < s .decisions .records → SoundColumn (s .classes) (s .variables) (columnAt image s k)
+  pub sound-column : (k : ℕ) → k < s .decisions .records → SoundColumn (s .classes) (s .variables) (columnAt image s k)
   unfolding columnAt sectionNamed
   sound-column k l =
       record {
@@ -158,7 +162,7 @@ module _ (image : List ℕ) (s : Sections) (laid : SectionsLaid image s) (right 
         letters-right = each-of-list (SoundLetter (s .classes)) (letterAt image s) _ sound-letter;
         symbols-differ = symbols-differ;
         blank-known = has-letter known;
-        entries-right = each-of-list (SoundEntry (s .classes) _ _) (entryAt image s) _ sound-entry;
+        entries-right = sound-entries;
         contexts-right = each-of-list (SoundContext (s .classes)) (contextAt image s) _ sound-context;
         transitions-right = each-of-list (SoundTransition (s .classes)) (transitionAt image s) _ sound-transition;
         columns-right = each-of-list (SoundColumn (s .classes) (s .variables)) (columnAt image s) _ sound-column;

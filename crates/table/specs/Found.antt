@@ -1,4 +1,4 @@
--- What a search for a record answers in the code, by what the definition's search finds.
+-- What a search of the code answers, by what the definition's search finds: the number of a record, or a place of a text. No heading of document 01.
 use Prim.Native.Nat.{ℕ}
 use mathlib.Core.Option.{Option, none, some}
 use Rattle.table.specs.declared.Found.{Found}

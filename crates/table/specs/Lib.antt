@@ -9,6 +9,7 @@ pub mod Table
 pub mod Grouping
 pub mod Verdict
 pub mod Found
+pub mod Wrote
 pub mod Refusals
 pub mod Judging
 pub mod Laid

@@ -26,7 +26,7 @@ use Rattle.table.specs.Numbers.{
   blank,
   bar,
 }
-use Rattle.table.specs.Table.{Letter, Entry, Column, Table}
+use Rattle.table.specs.Table.{Letter, HasLetter, Entry, Column, Table}
 use Rattle.table.specs.Grouping.{Grouped}
 use Rattle.table.specs.Verdict.{strings}
 use Rattle.table.specs.Refusals.{Between, IsLetterSign, IsEntrySign, IsTransition, IsDecision, IsCondition}
@@ -34,12 +34,6 @@ use Rattle.table.specs.Refusals.{Between, IsLetterSign, IsEntrySign, IsT
 -- whatever stands for an element that is missing, each element is so
 abbrev pub EachOf : {A : Type 0} → (A → Type 0) → List A → Type 0
 EachOf {A} Right xs = (k : ℕ) (d : A) → k < length xs → Right (getD xs k d)
-
--- `c` has an alphabet record
-pub record HasLetter (letters : List Letter) (c : ℕ) : Type 0 where
-  pub at : ℕ
-  pub there : at < length letters
-  pub same : (d : Letter) → getD letters at d .symbol ≡ c
 
 pub record SoundLetter (classes : ℕ) (l : Letter) : Type 0 where
   pub symbol-right : Between leastSymbol mostSymbol (l .symbol)

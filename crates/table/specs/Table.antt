@@ -1,6 +1,8 @@
 -- 'The table image', decoded: the table as lists. Translation is defined over this alone, and no definition above mentions an offset of the image.
-use Prim.Native.Nat.{ℕ}
+use Prim.Native.Nat.{ℕ, _<_}
 use mathlib.Core.List.{List}
+use mathlib.Core.Path.{_≡_}
+use lib.ListN.{length, getD}
 use Rattle.table.specs.Numbers.{
   symbolByte,
   letterClassByte,
@@ -23,6 +25,12 @@ pub record Letter : Type 0 where
   pub symbol : ℕ
   pub class : ℕ
   pub sign : ℕ
+
+-- `c` has an alphabet record, whatever stands for one that is missing
+pub record HasLetter (letters : List Letter) (c : ℕ) : Type 0 where
+  pub at : ℕ
+  pub there : at < length letters
+  pub same : (d : Letter) → getD letters at d .symbol ≡ c
 
 -- a contraction record; the context is 0 for none, or its number from 1
 pub record Entry : Type 0 where

@@ -57,8 +57,8 @@ pub struct Reader<'a> {
     pub verdict: Verdict,
 }
 
-// What a search for a record answers: its number in the section.
-pub(crate) enum Found {
+// What a search answers: the number of a record in its section, or a place of a text.
+pub enum Found {
     At(u16),
     Nothing,
 }

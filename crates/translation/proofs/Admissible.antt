@@ -1,18 +1,19 @@
 -- The test `admissible` says what the paper's words say, part by part: the string begins the rest, the context, the conditions of a column, the
--- columns from the left. Each part is a pair of laws, and the theorem puts them together.
+-- columns from the left. Each part's test tells what the words say, and the theorem puts the tests together.
 use Prim.Native.Nat.{ℕ, pred}
-use mathlib.Core.Bool.{Bool, true, false, cond, not, _&&_, _||_, not-eq-not}
+use mathlib.Core.Bool.{Bool, true, false, false≢true, cond, not, _||_}
 use mathlib.Core.List.{List, [], _∷_, _++_}
-use mathlib.Core.Logic.{_↔_}
-use mathlib.Core.Path.{_≡_, refl, sym, _∙_, ap, subst}
+use mathlib.Core.Logic.{_↔_, _⊎_, inl, inr, ⊎-elim, Iff·trans}
+use mathlib.Core.Path.{_≡_, refl, sym, _∙_, ap, ap₂, subst}
+use native.Mathlib.Omega.{arith}
 use lib.Dec.{eqb}
 use lib.ListN.{length, getD}
-use borrow.Author.Tests.{eqb-true, eqb-false, eq-eqb, ne-eqb, not-true}
+use borrow.Author.Tests.{eqb-true, eqb-false, ne-eqb, not-true}
 use Rattle.table.specs.Numbers.{noContext, accepts, rejects, byteYes, byteNo, dash}
 use Rattle.table.specs.Search.{member}
 use Rattle.table.specs.Table.{Table, Entry, Column}
-use Rattle.table.proofs.Lists.{member-stands, member-at}
-use Rattle.table.proofs.Tests.{clash, every-law}
+use Rattle.table.proofs.Lists.{StandsIn, member-law}
+use Rattle.table.proofs.Tests.{Tells, clash, fails-law, tells-and, tells-or, tells-eq, every-law}
 use Rattle.translation.specs.Decide.{States, state, byteOfClass, conditionHolds, conditionsHold, Ruling, accept, reject, next, ruling, decided}
 use Rattle.translation.specs.Choose.{begins, classAfter, contextHolds, admissible}
 use Rattle.translation.specs.Admissible.{
@@ -37,75 +38,51 @@ record Follows (string rest : List ℕ) : Type 0 where
   after : List ℕ
   whole : rest ≡ string ++ after
 
-begins-true : (string rest : List ℕ) → begins string rest ≡ true → Follows string rest
+begins-law : (string rest : List ℕ) → Tells (begins string rest) (Follows string rest)
 unfolding begins
-begins-true [] rest e = record { after = rest; whole = refl }
-begins-true (c ∷ string) [] e = absurd (clash e refl)
-begins-true (c ∷ string) (x ∷ rest) e = go (eqb c x) refl e (begins-true string rest)
-  where
-    go : (b : Bool) → eqb c x ≡ b → b && begins string rest ≡ true → (begins string rest ≡ true → Follows string rest)
-        → Follows (c ∷ string) (x ∷ rest)
-    go true t e later =
-        let f = later e in
-        let h : c ≡ x = eqb-true c x t in
-        record { after = f .after; whole = ap (λ (y : ℕ). y ∷ rest) (sym h) ∙ ap (λ (r : List ℕ). c ∷ r) (f .whole) }
-    go false t e later = absurd (clash e refl)
-
-begins-of : (string after : List ℕ) → begins string (string ++ after) ≡ true
-unfolding begins
-begins-of [] after = refl
-begins-of (c ∷ string) after = rw (eq-eqb c c refl) (begins-of string after)
+begins-law [] rest = (λ _. record { after = rest; whole = refl }, λ _. refl)
+begins-law (c ∷ string) [] = (λ e. absurd (false≢true e), λ f. let n = ap length (f .whole) in absurd (omega arith))
+begins-law (c ∷ string) (x ∷ rest) =
+    Iff·trans (tells-and (tells-eq c x) (begins-law string rest)) (
+      λ h. record { after = h .1 .after; whole = ap₂ _∷_ (sym (h .0)) (h .1 .whole) },
+      λ f. (cc (f .whole), record { after = f .after; whole = cc (f .whole) }),
+    )
 
 -- ---- The right context
 
-context-true : (contexts : List (List ℕ)) (n c : ℕ) → eqb n noContext || member c (getD contexts (pred n) []) ≡ true → ContextAllows contexts n c
-context-true contexts n c t = go (eqb n noContext) refl t
+context-law : (contexts : List (List ℕ)) (n c : ℕ)
+    → Tells (eqb n noContext || member c (getD contexts (pred n) [])) (ContextAllows contexts n c)
+context-law contexts n c =
+    Iff·trans (tells-or (tells-eq n noContext) (member-law c (getD contexts (pred n) [])))
+    (⊎-elim no-context (λ s. holds-class (s .at) (s .there) (s .same)), either)
   where
-    go : (b : Bool) → eqb n noContext ≡ b → b || member c (getD contexts (pred n) []) ≡ true → ContextAllows contexts n c
-    go true e t = no-context (eqb-true n noContext e)
-    go false e t = let s = member-stands c (getD contexts (pred n) []) t in holds-class (s .at) (s .there) (s .same)
-
-context-of : (contexts : List (List ℕ)) (n c : ℕ) → ContextAllows contexts n c → eqb n noContext || member c (getD contexts (pred n) []) ≡ true
-context-of contexts n c (no-context h) = rw h
-context-of contexts n c (holds-class i l h) = go (eqb n noContext) (member-at c (getD contexts (pred n) []) i l h)
-  where
-    go : (b : Bool) → member c (getD contexts (pred n) []) ≡ true → b || member c (getD contexts (pred n) []) ≡ true
-    go true m = refl
-    go false m = m
+    either : ContextAllows contexts n c → (n ≡ noContext) ⊎ StandsIn c (getD contexts (pred n) [])
+    either (no-context e) = inl e
+    either (holds-class i l e) = inr (record { at = i; there = l; same = e })
 
 -- ---- The conditions of a column
 
-condition-true : (b : ℕ) (was : Bool) → conditionHolds b was ≡ true → ConditionMet b was
+condition-law : (b : ℕ) (was : Bool) → Tells (conditionHolds b was) (ConditionMet b was)
 unfolding conditionHolds
-condition-true b was t =
-    record {
-      yes-state = λ h. subst (λ (x : ℕ). conditionHolds x was ≡ true) h t;
-      no-state = λ h. not-true was (subst (λ (x : ℕ). conditionHolds x was ≡ true) h t);
-    }
-
-condition-of : (b : ℕ) (was : Bool) → ConditionMet b was → conditionHolds b was ≡ true
-unfolding conditionHolds
-condition-of b was met = go (eqb b byteYes) (eqb b byteNo) refl refl
+condition-law b was = (
+  λ t.
+      record {
+        yes-state = λ h. subst (λ (x : ℕ). conditionHolds x was ≡ true) h t;
+        no-state = λ h. not-true was (subst (λ (x : ℕ). conditionHolds x was ≡ true) h t);
+      },
+  λ met. go met (eqb b byteYes) (eqb b byteNo) refl refl,
+)
   where
-    go : (y n : Bool) → eqb b byteYes ≡ y → eqb b byteNo ≡ n → cond y was (cond n (not was) true) ≡ true
-    go true n e f = met .yes-state (eqb-true b byteYes e)
-    go false true e f = ap not (met .no-state (eqb-true b byteNo f))
-    go false false e f = refl
+    go : ConditionMet b was → (y n : Bool) → eqb b byteYes ≡ y → eqb b byteNo ≡ n → cond y was (cond n (not was) true) ≡ true
+    go met true n e f = met .yes-state (eqb-true b byteYes e)
+    go met false true e f = ap not (met .no-state (eqb-true b byteNo f))
+    go met false false e f = refl
 
-conditions-true : (column : Column) (states : States) → conditionsHold column states ≡ true → ConditionsMet column states
+conditions-law : (column : Column) (states : States) → Tells (conditionsHold column states) (ConditionsMet column states)
 unfolding conditionsHold
-conditions-true column states t v l =
-    condition-true (getD (column .conditions) v dash) (state states v)
-    (every-law (λ v. conditionHolds (getD (column .conditions) v dash) (state states v)) (length (column .conditions)) .0 t v l)
-
-conditions-of : (column : Column) (states : States) → ConditionsMet column states → conditionsHold column states ≡ true
-unfolding conditionsHold
-conditions-of column states met =
-    every-law (λ v. conditionHolds (getD (column .conditions) v dash) (state states v)) (length (column .conditions)) .1
-    (λ v l. condition-of (getD (column .conditions) v dash) (state states v) (met v l))
-
-conditions-unmet : (column : Column) (states : States) → (ConditionsMet column states → ⊥) → conditionsHold column states ≡ false
-conditions-unmet column states unmet = not-eq-not {b = false} .0 (λ t. unmet (conditions-true column states t))
+conditions-law column states =
+    Iff·trans (every-law (λ v. conditionHolds (getD (column .conditions) v dash) (state states v)) (length (column .conditions)))
+    (λ h v l. condition-law _ _ .0 (h v l), λ met v l. condition-law _ _ .1 (met v l))
 
 -- ---- The columns from the left
 
@@ -124,14 +101,14 @@ module _ (states : States) (c : ℕ) where
       b = byteOfClass (column .byClass) c
 
       unmet : conditionsHold column states ≡ false → ConditionsMet column states → ⊥
-      unmet f met = clash (conditions-of column states met) f
+      unmet = fails-law (conditions-law column states) .0
 
       go : (g f y n k : Bool) → eqb b accepts ≡ g → eqb b rejects ≡ f → eqb b byteYes ≡ y → eqb b byteNo ≡ n → conditionsHold column states ≡ k
           → by columns (cond g accept (cond f reject (cond y (cond k accept next) (cond n (cond k reject next) next)))) ≡ true
           → (decided columns states c ≡ true → Accepts states c columns) → Accepts states c (column ∷ columns)
       go true f y n k eg ef ey en ek e later = G-accepts (eqb-true b accepts eg)
       go false true y n k eg ef ey en ek e later = absurd (clash e refl)
-      go false false true n true eg ef ey en ek e later = Y-accepts (eqb-true b byteYes ey) (conditions-true column states ek)
+      go false false true n true eg ef ey en ek e later = Y-accepts (eqb-true b byteYes ey) (conditions-law column states .0 ek)
       go false false true n false eg ef ey en ek e later = Y-next (eqb-true b byteYes ey) (unmet ek) (later e)
       go false false false true true eg ef ey en ek e later = absurd (clash e refl)
       go false false false true false eg ef ey en ek e later = N-next (eqb-true b byteNo en) (unmet ek) (later e)
@@ -160,37 +137,21 @@ module _ (states : States) (c : ℕ) where
       accepted-later _ _
       (rw (ne-eqb _ _ (d .not-accepts), ne-eqb _ _ (d .not-rejects), ne-eqb _ _ (d .not-yes), ne-eqb _ _ (d .not-no))) (decided-of later)
   decided-of (G-accepts h) = accepted-here _ _ (rw h)
-  decided-of (Y-accepts {column = column} h met) = accepted-here _ _ (rw (h, conditions-of column states met))
-  decided-of (Y-next {column = column} h unmet later) = accepted-later _ _ (rw (h, conditions-unmet column states unmet)) (decided-of later)
-  decided-of (N-next {column = column} h unmet later) = accepted-later _ _ (rw (h, conditions-unmet column states unmet)) (decided-of later)
+  decided-of (Y-accepts {column = column} h met) = accepted-here _ _ (rw (h, conditions-law column states .1 met))
+  decided-of (Y-next {column = column} h unmet later) = accepted-later _ _ (rw (h, fails-law (conditions-law column states) .1 unmet)) (decided-of later)
+  decided-of (N-next {column = column} h unmet later) = accepted-later _ _ (rw (h, fails-law (conditions-law column states) .1 unmet)) (decided-of later)
 
 -- ---- The whole
 
 pub admissible-as-written : (table : Table) (setting : Setting) (states : States) (rest : List ℕ) (e : Entry)
     → (admissible table setting states rest e ≡ true) ↔ Admissible table setting states rest e
 unfolding admissible contextHolds classAfter
-admissible-as-written table setting states rest e = (in-words, as-test)
-  where
-    c : ℕ
-    c = classAfter table setting rest (length (e .string))
-
-    in-words : admissible table setting states rest e ≡ true → Admissible table setting states rest e
-    in-words t = go (begins (e .string) rest) (contextHolds table setting rest e) refl refl t
-      where
-        go : (b h : Bool) → begins (e .string) rest ≡ b → contextHolds table setting rest e ≡ h
-            → b && h && decided (table .decisions) states (e .class) ≡ true → Admissible table setting states rest e
-        go true true eb eh t =
-            let f = begins-true (e .string) rest eb in
-            record {
-              after = f .after;
-              begins = f .whole;
-              context = context-true (table .contexts) (e .context) c eh;
-              accepted = decided-true states (e .class) (table .decisions) t;
-            }
-        go true false eb eh t = absurd (clash t refl)
-        go false h eb eh t = absurd (clash t refl)
-
-    as-test : Admissible table setting states rest e → admissible table setting states rest e ≡ true
-    as-test a =
-        rw (ap (begins (e .string)) (a .begins) ∙ begins-of (e .string) (a .after), context-of (table .contexts) (e .context) c (a .context))
-        (decided-of states (e .class) (a .accepted))
+admissible-as-written table setting states rest e =
+    Iff·trans
+    (tells-and
+    (tells-and (begins-law (e .string) rest)
+    (context-law (table .contexts) (e .context) (classAfter table setting rest (length (e .string)))))
+    (decided-true states (e .class) (table .decisions), decided-of states (e .class))) (
+      λ h. record { after = h .0 .0 .after; begins = h .0 .0 .whole; context = h .0 .1; accepted = h .1 },
+      λ a. ((record { after = a .after; whole = a .begins }, a .context), a .accepted),
+    )

@@ -4,19 +4,18 @@ use Prim.Native.Nat.{ℕ, zero, suc, pred, _≤_, _<_}
 use mathlib.Core.Bool.{Bool, true, false}
 use mathlib.Core.List.{List, [], _∷_}
 use mathlib.Core.Logic.{_≢_}
-use mathlib.Core.Option.{Option, none, some}
 use mathlib.Core.Path.{_≡_, refl}
 use native.Mathlib.Omega.{arith}
 use lib.Dec.{eqb, ltb}
 use lib.ListN.{length, getD}
 use borrow.Author.Tests.{eqb-false}
 use Rattle.table.specs.Numbers.{bar, blank}
-use Rattle.table.specs.Table.{Letter}
+use Rattle.table.specs.Table.{Letter, HasLetter}
+use Rattle.table.proofs.Tests.{decided-by}
 use Rattle.translation.specs.Numbers.{keptBlanks}
 use Rattle.translation.specs.Collapse.{unfed, unbarred, keptAfter, thinned, collapsed}
-use Rattle.translation.specs.Letters.{letterOf}
-use Rattle.translation.specs.Refusals.{HasLetter, UnknownAt}
-use Rattle.translation.proofs.Refusals.{letter-found, letter-missing}
+use Rattle.translation.specs.Refusals.{UnknownAt}
+use Rattle.translation.proofs.Refusals.{letter-law}
 
 -- ---- Lent characters, kept in their order
 
@@ -88,14 +87,11 @@ collapsed-lent text = keeps-lent (collapsed-keeps text)
 -- every remaining character has its alphabet record, where no lent one is unknown
 pub collapsed-known : (letters : List Letter) (text : List ℕ) → ((i : ℕ) → UnknownAt letters text i → ⊥) → (i : ℕ) → i < length (collapsed text)
     → HasLetter letters (getD (collapsed text) i 0)
-collapsed-known letters text known i l = go (letterOf letters (getD (collapsed text) i 0)) refl
+collapsed-known letters text known i l = go (decided-by (letter-law letters (getD (collapsed text) i 0)))
   where
     lent : Lent text (getD (collapsed text) i 0)
     lent = collapsed-lent text i l
 
-    go : (o : Option ℕ) → letterOf letters (getD (collapsed text) i 0) ≡ o → HasLetter letters (getD (collapsed text) i 0)
-    go none e =
-        absurd
-        (known (lent .at)
-        (record { there = lent .there; no-bar = lent .no-bar; no-letter = letter-missing letters _ (rw (lent .same) at e) }))
-    go (some k) e = letter-found letters _ k e
+    go : Dec (HasLetter letters (getD (collapsed text) i 0)) → HasLetter letters (getD (collapsed text) i 0)
+    go (yes h) = h
+    go (no n) = absurd (known (lent .at) (record { there = lent .there; no-bar = lent .no-bar; no-letter = rw (lent .same) at n }))

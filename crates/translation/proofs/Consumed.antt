@@ -2,32 +2,20 @@
 -- rest, as many as its shift, and the next piece is given what is left; a sound table's shifts are at least 1, so as many pieces as characters are enough.
 use Prim.Native.Nat.{ℕ, zero, suc, _≤_, _<_}
 use mathlib.Core.List.{List, [], _∷_, _++_, map, flatten, append-assoc}
-use mathlib.Core.Option.{Option, none, some}
 use mathlib.Core.Path.{_≡_, refl, _∙_, ap}
 use native.Mathlib.Omega.{arith}
 use lib.ListN.{length, take, drop, length-drop, take-append-drop}
 use Rattle.table.specs.Table.{Table}
-use Rattle.table.proofs.Search.{first-found}
+use Rattle.table.specs.Sound.{Sound}
 use Rattle.translation.specs.Decide.{States, startStates, moved}
-use Rattle.translation.specs.Choose.{choice}
-use Rattle.translation.specs.Pieces.{characters, pieceBy, frontPiece, piecesFrom, piecesIn}
-use Rattle.translation.specs.Sound.{Sound}
+use Rattle.translation.specs.Pieces.{characters, frontPiece, piecesFrom, piecesIn}
 use Rattle.translation.specs.Chosen.{piece, pieceIn}
 use Rattle.translation.specs.declared.Setting.{Setting}
 use Rattle.translation.proofs.Pieces.{front-rest, next-piece}
+use Rattle.translation.proofs.Chosen.{front-fits}
 
 module _ (table : Table) (setting : Setting) where
-  -- ---- The front piece takes a character, and what it takes and leaves is its rest
-
-  front-shift : Sound table → (now : States) (rest : List ℕ) → 1 ≤ frontPiece table setting now rest .shift
-  unfolding frontPiece pieceBy choice
-  front-shift sound now rest = go (choice table setting now rest) refl
-    where
-      go : (o : Option ℕ) → choice table setting now rest ≡ o → 1 ≤ pieceBy table now rest o .shift
-      go none e = omega arith
-      go (some k) e =
-          let f = first-found _ 0 (length (table .entries)) k e in
-          sound .entries k (omega arith) .shift-least
+  -- ---- What the front piece takes and leaves is its rest
 
   front-and-left : (now : States) (rest : List ℕ)
       → characters (frontPiece table setting now rest) ++ drop (frontPiece table setting now rest .shift) rest ≡ rest
@@ -36,7 +24,7 @@ module _ (table : Table) (setting : Setting) where
 
   -- ---- All pieces
 
-  pub consumed : Sound table → (text : List ℕ) → flatten (map characters (piecesIn table setting text)) ≡ text
+  pub consumed : {classes variables : ℕ} → Sound classes variables table → (text : List ℕ) → flatten (map characters (piecesIn table setting text)) ≡ text
   unfolding piecesIn piecesFrom flatten
   consumed sound text = go (length text) (startStates table) text (omega arith)
     where
@@ -46,7 +34,7 @@ module _ (table : Table) (setting : Setting) where
       go (suc n) now [] h = refl
       go (suc n) now (c ∷ rest) h =
           let p = frontPiece table setting now (c ∷ rest) in
-          let s = front-shift sound now (c ∷ rest) in
+          let f = front-fits table setting (sound .entries-right) now (c ∷ rest) (omega arith) in
           let shorter : length (drop (p .shift) (c ∷ rest)) ≤ n = rw (length-drop (p .shift) (c ∷ rest)) (omega arith) in
           ap (λ (l : List ℕ). characters p ++ l) (go n (moved table (p .class) now) (drop (p .shift) (c ∷ rest)) shorter)
           ∙ front-and-left now (c ∷ rest)

@@ -9,16 +9,18 @@ use lib.Seq.{drop-drop, take-all}
 use Rattle.table.specs.Numbers.{entrySigns}
 use Rattle.table.specs.Table.{Table, tableIn}
 use Rattle.table.specs.declared.Sections.{Sections}
+use Rattle.table.proofs.Sound.{sound-entries}
 use Rattle.translation.specs.Decide.{States, startStates, moved}
 use Rattle.translation.specs.Pieces.{Piece, frontPiece, piecesFrom, piecesIn, printed, signsOf}
 use Rattle.translation.specs.Opened.{Opened}
 use Rattle.translation.specs.States.{statesIn}
-use Rattle.translation.specs.Inside.{Wrote, MadeAs, Consumed}
+use Rattle.translation.specs.Inside.{WroteUntil, MadeAs, Consumed}
 use Rattle.translation.specs.declared.Setting.{Setting}
 use Rattle.translation.specs.declared.variables.States.{States as Held}
 use Rattle.translation.specs.declared.piecing.Piece.{Piece as MadePiece}
 use Rattle.translation.proofs.Writing.{wrote-nothing, wrote-then}
-use Rattle.translation.proofs.Fronts.{front-fits}
+use Rattle.translation.proofs.Chosen.{front-fits}
+use Rattle.translation.proofs.Signs.{printed-at-most}
 
 -- the rest of the text from a place on, as it is lent
 pub rest-lent : (text : List ℕ) (at : ℕ) → take (length text - at) (drop at text) ≡ drop at text
@@ -52,7 +54,7 @@ module _ (image : List ℕ) (s : Sections) (setting : Setting) (text before : Li
 
   pub record Piecing (after : List ℕ) (held : Held) (at pieces next : ℕ) : Type 0 where
     pub done : List ℕ
-    pub wrote : Wrote before 0 done after next
+    pub wrote : WroteUntil before 0 done after next
     pub four-each : next ≤ entrySigns * pieces
     pub passed : pieces ≤ at
     pub within : at ≤ length text
@@ -93,7 +95,9 @@ module _ (image : List ℕ) (s : Sections) (setting : Setting) (text before : Li
         → Piecing last moves (at + made .shift) (pieces + 1) (made .next)
     unfolding signsOf
     piecing-goes-on {last} {made} {moves} opened l m e =
-        let f = front-fits image s setting (statesIn s held) (drop at text) opened (rw length-drop (omega arith)) in
+        let right = sound-entries image s (opened .laid) (opened .right) in
+        let f = front-fits (tableIn image s) setting right (statesIn s held) (drop at text) (rw length-drop (omega arith)) in
+        let fewer = printed-at-most (front .signs) in
         let rest = length-drop at text in
         let shift = m .shift-is in
         let place = m .wrote .place in
@@ -118,5 +122,5 @@ module _ (image : List ℕ) (s : Sections) (setting : Setting) (text before : Li
         record {
           counted = omega (arith, p .counted, ap length ended);
           wrote =
-              subst (λ (xs : List ℕ). Wrote before 0 xs after next) (sym (append-nil (p .done)) ∙ rw ended at (p .signs)) (p .wrote);
+              subst (λ (xs : List ℕ). WroteUntil before 0 xs after next) (sym (append-nil (p .done)) ∙ rw ended at (p .signs)) (p .wrote);
         }

@@ -2,21 +2,22 @@
 use Prim.Native.Nat.{ℕ, pred, _-_, _<_}
 use mathlib.Core.Bool.{Bool, true, false, _&&_}
 use mathlib.Core.List.{List, []}
-use mathlib.Core.Logic.{_≢_, inl, inr}
+use mathlib.Core.Logic.{_≢_}
 use mathlib.Core.Path.{_≡_, refl, sym, _∙_}
 use native.Mathlib.Numerals.{sub-one}
 use native.Mathlib.Omega.{arith}
 use lib.ListN.{length, getD}
 use borrow.Author.Tests.{eq-eqb, ne-eqb}
-use Rattle.table.specs.Numbers.{lengthByte, stringByte, contextByte, signsByte, entrySigns, leastShift, noContext, contextSize}
+use Rattle.table.specs.Numbers.{lengthByte, stringByte, contextByte, signsByte, entrySigns, noContext, contextSize}
 use Rattle.table.specs.Search.{member}
 use Rattle.table.specs.Records.{contractions, sectionNamed}
 use Rattle.table.specs.Sections.{recordByte}
 use Rattle.table.specs.Promises.{partWithin}
-use Rattle.table.specs.Refusals.{Between, ContextExists, RightEntry}
+use Rattle.table.specs.Refusals.{RightEntry}
 use Rattle.table.specs.Table.{tableIn, entryAt}
 use Rattle.table.specs.declared.Sections.{Sections}
-use Rattle.table.proofs.Reading.{part-long, part-within, part-at, entry-at, string-inside, signs-inside, context-within}
+use Rattle.table.proofs.Reading.{contexts-long, part-long, part-within, part-at, entry-at, string-inside, signs-inside, context-within}
+use Rattle.table.proofs.Sound.{sound-entry}
 use Rattle.translation.specs.Decide.{States, decided}
 use Rattle.translation.specs.Choose.{begins, classAfter, contextHolds, admissible, noEntry, entry}
 use Rattle.translation.specs.Opened.{Opened}
@@ -31,23 +32,14 @@ module _ (image : List ℕ) (s : Sections) (opened : Opened image s) (k : ℕ) (
   unfolding sectionNamed
   right = opened .right contractions k there
 
-  pub string-long : length (entryAt image s k .string) ≡ byte lengthByte
+  string-long : length (entryAt image s k .string) ≡ byte lengthByte
   unfolding entryAt
   string-long = part-long image (s .contractions) k stringByte (byte lengthByte) (string-inside image s (opened .laid) (opened .right) k there)
-
-  pub signs-long : length (entryAt image s k .signs) ≡ entrySigns
-  unfolding entryAt
-  signs-long =
-      part-long image (s .contractions) k signsByte entrySigns (signs-inside image s (opened .laid) (opened .right) k there)
 
   pub signs-read : partWithin image (s .contractions) k signsByte entrySigns ≡ entryAt image s k .signs
   unfolding entryAt
   signs-read =
       part-within image (s .contractions) k signsByte entrySigns (signs-inside image s (opened .laid) (opened .right) k there)
-
-  pub shift-right : Between leastShift (length (entryAt image s k .string)) (entryAt image s k .shift)
-  unfolding entryAt
-  shift-right = let r = right .shift-right in let e = string-long in record { low = r .low; high = omega arith }
 
   -- ---- The right context
 
@@ -57,11 +49,10 @@ module _ (image : List ℕ) (s : Sections) (opened : Opened image s) (k : ℕ) (
   no-context-holds setting rest e = rw (eq-eqb (byte contextByte) noContext e)
 
   context-there : byte contextByte ≢ noContext → pred (byte contextByte) < s .contexts .records
-  context-there n = go (right .context-exists)
-    where
-      go : ContextExists s (byte contextByte) → pred (byte contextByte) < s .contexts .records
-      go (inl e) = absurd (n e)
-      go (inr h) = let l = h .1 in let e = h .2 in omega arith
+  unfolding entryAt
+  context-there n =
+      let exists = sound-entry image s (opened .laid) (opened .right) k there .context-exists in
+      omega (arith, contexts-long image s)
 
   context-is : entryAt image s k .context ≡ byte contextByte
   unfolding entryAt

@@ -1,5 +1,4 @@
 pub mod Example
-pub mod Loops
 pub mod Records
 pub mod Entries
 pub mod Moving

@@ -12,7 +12,7 @@ use lib.Seq.{drop-cons}
 use borrow.Author.Tests.{eq-eqb, ne-eqb}
 use Rattle.table.specs.Numbers.{blankCell, otherBlank, noCell}
 use Rattle.translation.specs.Pieces.{printed}
-use Rattle.translation.specs.Inside.{Wrote}
+use Rattle.translation.specs.Inside.{WroteUntil}
 use Rattle.translation.proofs.Signs.{printed-at-most}
 use Rattle.translation.proofs.Writing.{wrote-nothing, wrote-then}
 
@@ -40,7 +40,7 @@ printed-one-by-one g signs = go (eqb g noCell)
 
 pub record Printing (signs before : List ℕ) (at : ℕ) (after : List ℕ) (next i : ℕ) : Type 0 where
   pub done : List ℕ
-  pub wrote : Wrote before at done after next
+  pub wrote : WroteUntil before at done after next
   pub no-more : next ≤ at + i
   pub within : i ≤ length signs
   pub whole : done ++ printed (drop i signs) ≡ printed signs
@@ -50,7 +50,7 @@ printing-starts signs before at l =
     record { done = []; wrote = wrote-nothing before at l; no-more = omega arith; within = omega arith; whole = refl }
 
 module _ {signs before : List ℕ} {at : ℕ} {after : List ℕ} {next i : ℕ} (p : Printing signs before at after next i) where
-  pub printing-goes-on : {last : List ℕ} {place : ℕ} → i < length signs → Wrote after next (printed (getD signs i 0 ∷ [])) last place
+  pub printing-goes-on : {last : List ℕ} {place : ℕ} → i < length signs → WroteUntil after next (printed (getD signs i 0 ∷ [])) last place
       → Printing signs before at last place (i + 1)
   printing-goes-on {last} {place} l w =
       record {
@@ -62,8 +62,8 @@ module _ {signs before : List ℕ} {at : ℕ} {after : List ℕ} {next i : ℕ} 
             rw (append-assoc, add-one, ← (printed-one-by-one (getD signs i 0) (drop (suc i) signs)), ← (drop-cons signs i 0 l)) (p .whole);
       }
 
-  pub printing-ends : length signs ≤ i → Wrote before at (printed signs) after next
+  pub printing-ends : length signs ≤ i → WroteUntil before at (printed signs) after next
   unfolding printed
   printing-ends l =
-      subst (λ (xs : List ℕ). Wrote before at xs after next)
+      subst (λ (xs : List ℕ). WroteUntil before at xs after next)
       (sym (append-nil (p .done)) ∙ rw (drop-of-length-le signs l) at (p .whole)) (p .wrote)

@@ -2,21 +2,19 @@
 use Prim.Native.Nat.{ℕ, _+_, _≤_, _<_}
 use mathlib.Core.List.{List, [], _∷_}
 use mathlib.Core.Option.{Option, none, some}
-use mathlib.Core.Path.{_≡_, refl, _∙_, ap}
+use mathlib.Core.Path.{_≡_, _∙_, ap}
 use native.Mathlib.Numerals.{add-one}
 use native.Mathlib.Omega.{arith}
 use lib.Dec.{eqb}
 use lib.ListN.{length, drop, drop-of-length-le}
 use lib.Seq.{drop-cons}
 use Rattle.table.specs.Numbers.{symbolByte}
-use Rattle.table.specs.Search.{first}
-use Rattle.table.specs.Sections.{recordByte, recordPart}
+use Rattle.table.specs.Sections.{recordByte}
 use Rattle.table.specs.Table.{Letter, tableIn, letterAt, columnAt}
 use Rattle.table.specs.declared.Sections.{Sections}
 use Rattle.table.proofs.Search.{first-found}
 use Rattle.table.proofs.Reading.{letters-long, letter-at, columns-long, column-at}
 use Rattle.translation.specs.Letters.{noLetter, letter, letterOf, letterFor}
-use Rattle.translation.proofs.Loops.{first-agrees}
 
 abbrev letter-or-none : List Letter → Option ℕ → Letter
 letter-or-none letters o = elim o [ none ↦ noLetter | some k ↦ letter letters k ]
@@ -24,13 +22,11 @@ letter-or-none letters o = elim o [ none ↦ noLetter | some k ↦ letter letter
 module _ (image : List ℕ) (s : Sections) where
   -- ---- The alphabet
 
-  -- the record of a symbol, searched for in the image
-  pub letter-of-read : (c : ℕ)
-      → letterOf (tableIn image s .letters) c ≡ first (λ k. eqb (recordByte image (s .alphabet) k symbolByte) c) (s .alphabet .records)
-  unfolding letterOf letterAt
-  letter-of-read c =
-      ap (first (λ k. eqb (letter (tableIn image s .letters) k .symbol) c)) (letters-long image s)
-      ∙ first-agrees _ _ (s .alphabet .records) (λ k l. ap (λ (x : Letter). eqb (x .symbol) c) (letter-at image s k noLetter l))
+  -- a record has the symbol, read in the image
+  pub symbol-read : (c k : ℕ) → k < s .alphabet .records
+      → eqb (letter (tableIn image s .letters) k .symbol) c ≡ eqb (recordByte image (s .alphabet) k symbolByte) c
+  unfolding letterAt
+  symbol-read c k l = ap (λ (x : Letter). eqb (x .symbol) c) (letter-at image s k noLetter l)
 
   pub letter-for-found : (c k : ℕ) → letterOf (tableIn image s .letters) c ≡ some k → letterFor (tableIn image s .letters) c ≡ letterAt image s k
   unfolding letterFor letterOf
@@ -44,10 +40,6 @@ module _ (image : List ℕ) (s : Sections) where
   letter-for-missing c e = ap (letter-or-none (tableIn image s .letters)) e
 
   -- ---- The decisions
-
-  pub by-class : (k : ℕ) → columnAt image s k .byClass ≡ recordPart image (s .decisions) k 0 (s .classes)
-  unfolding columnAt
-  by-class k = refl
 
   pub columns-from : (k : ℕ) → k < s .decisions .records
       → drop k (tableIn image s .decisions) ≡ columnAt image s k ∷ drop (k + 1) (tableIn image s .decisions)

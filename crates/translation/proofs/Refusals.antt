@@ -1,63 +1,61 @@
 -- Refusal 7: the search for the first unknown character of the text as lent answers exactly what the paper's words say.
 use Prim.Native.Nat.{ℕ, _<_}
-use mathlib.Core.Bool.{Bool, true, false, not, _&&_, not-eq-not}
+use mathlib.Core.Bool.{Bool, false≢true}
 use mathlib.Core.List.{List}
-use mathlib.Core.Logic.{_↔_, _≢_}
+use mathlib.Core.Logic.{_↔_, _≢_, Iff·trans}
 use mathlib.Core.Option.{Option, none, some}
-use mathlib.Core.Path.{_≡_, refl, sym, _∙_, ap}
+use mathlib.Core.Path.{_≡_, refl, sym, _∙_, ap, subst}
 use native.Mathlib.Omega.{arith}
 use lib.Dec.{eqb}
 use lib.ListN.{length, getD}
-use borrow.Author.Tests.{eqb-true, eqb-false, ne-eqb}
+use borrow.Author.Tests.{eqb-true, eq-eqb}
 use Rattle.table.specs.Numbers.{bar}
-use Rattle.table.specs.Search.{isThere}
-use Rattle.table.specs.Table.{Letter, Table}
+use Rattle.table.specs.Search.{first, isThere}
+use Rattle.table.specs.Table.{Letter, HasLetter, Table}
+use Rattle.table.specs.Sound.{Sound}
+use Rattle.table.proofs.Lists.{getD-there}
 use Rattle.table.proofs.Search.{first-found, first-missing, first-is, first-is-not}
-use Rattle.table.proofs.Tests.{clash}
+use Rattle.table.proofs.Tests.{Tells, clash, fails-law, tells-and, tells-not, tells-eq}
 use Rattle.translation.specs.Numbers.{lineFeed}
 use Rattle.translation.specs.Collapse.{unfed}
-use Rattle.translation.specs.Letters.{letter, letterOf, isUnknown, firstUnknown}
-use Rattle.translation.specs.Refusals.{HasLetter, UnknownAt, FirstUnknownAt}
-use Rattle.translation.specs.Sound.{Sound}
+use Rattle.translation.specs.Letters.{noLetter, letter, letterOf, isUnknown, firstUnknown}
+use Rattle.translation.specs.Refusals.{UnknownAt, FirstUnknownAt}
 
 module _ (letters : List Letter) where
-  abbrev has : ℕ → ℕ → Bool
-  has c k = eqb (letter letters k .symbol) c
-
   -- ---- The record of a character
 
-  pub letter-found : (c k : ℕ) → letterOf letters c ≡ some k → HasLetter letters c
+  -- the search finds one just where there is one
+  pub letter-law : (c : ℕ) → Tells (isThere (letterOf letters c)) (HasLetter letters c)
   unfolding letterOf
-  letter-found c k e =
-      let f = first-found (has c) 0 (length letters) k e in
-      record { at = k; there = omega arith; same = eqb-true _ _ (f .passes) }
+  letter-law c = go (letterOf letters c) refl
+    where
+      has : ℕ → Bool
+      has k = eqb (letter letters k .symbol) c
 
-  pub letter-missing : (c : ℕ) → letterOf letters c ≡ none → (k : ℕ) → k < length letters → letter letters k .symbol ≢ c
-  unfolding letterOf
-  letter-missing c e k l = eqb-false _ _ (first-missing (has c) 0 (length letters) e k (omega arith) (omega arith))
-
-  letter-is-missing : (c : ℕ) → ((k : ℕ) → k < length letters → letter letters k .symbol ≢ c) → letterOf letters c ≡ none
-  unfolding letterOf
-  letter-is-missing c h = first-is-not (has c) 0 (length letters) (λ k l u. ne-eqb _ _ (h k (omega arith)))
+      go : (o : Option ℕ) → first has (length letters) ≡ o → Tells (isThere o) (HasLetter letters c)
+      go none e = (
+        λ t. absurd (false≢true t),
+        λ h. absurd (clash (eq-eqb _ _ (h .same noLetter)) (first-missing has 0 (length letters) e (h .at) (omega arith) (omega arith))),
+      )
+      go (some k) e =
+          let f = first-found has 0 (length letters) k e in
+          let there : k < length letters = omega arith in (
+            λ _.
+                record {
+                  at = k;
+                  there = there;
+                  same = λ d. ap (λ (x : Letter). x .symbol) (getD-there letters k d noLetter there) ∙ eqb-true _ _ (f .passes);
+                },
+            λ _. refl,
+          )
 
   -- ---- One character
 
-  unknown-of-test : (text : List ℕ) (i : ℕ) → i < length text → isUnknown letters (getD text i 0) ≡ true → UnknownAt letters text i
+  unknown-law : (text : List ℕ) (i : ℕ) → i < length text → Tells (isUnknown letters (getD text i 0)) (UnknownAt letters text i)
   unfolding isUnknown
-  unknown-of-test text i l t = go (eqb (getD text i 0) bar) (letterOf letters (unfed (getD text i 0))) refl refl t
-    where
-      go : (b : Bool) (o : Option ℕ) → eqb (getD text i 0) bar ≡ b → letterOf letters (unfed (getD text i 0)) ≡ o → not b && not (isThere o) ≡ true
-          → UnknownAt letters text i
-      go true o e f t = absurd (clash t refl)
-      go false none e f t = record { there = l; no-bar = eqb-false _ _ e; no-letter = letter-missing (unfed (getD text i 0)) f }
-      go false (some k) e f t = absurd (clash t refl)
-
-  test-of-unknown : (text : List ℕ) (i : ℕ) → UnknownAt letters text i → isUnknown letters (getD text i 0) ≡ true
-  unfolding isUnknown
-  test-of-unknown text i u = rw (ne-eqb _ _ (u .no-bar), letter-is-missing (unfed (getD text i 0)) (u .no-letter))
-
-  fails-of-known : (text : List ℕ) (i : ℕ) → i < length text → (UnknownAt letters text i → ⊥) → isUnknown letters (getD text i 0) ≡ false
-  fails-of-known text i l known = not-eq-not {b = false} .0 (λ t. known (unknown-of-test text i l t))
+  unknown-law text i l =
+      Iff·trans (tells-and (tells-not (tells-eq (getD text i 0) bar)) (tells-not (letter-law (unfed (getD text i 0)))))
+      (λ h. record { there = l; no-bar = h .0; no-letter = h .1 }, λ u. (u .no-bar, u .no-letter))
 
   -- ---- The first
 
@@ -67,16 +65,16 @@ module _ (letters : List Letter) where
     λ e.
         let f = first-found (λ j. isUnknown letters (getD text j 0)) 0 (length text) i e in
         record {
-          unknown = unknown-of-test text i (omega arith) (f .passes);
-          none-before = λ j l u. clash (test-of-unknown text j u) (f .earlier j (omega arith) l);
+          unknown = unknown-law text i (omega arith) .0 (f .passes);
+          none-before = λ j l u. clash (unknown-law text j (u .there) .1 u) (f .earlier j (omega arith) l);
         },
     λ u.
         first-is (λ j. isUnknown letters (getD text j 0)) 0 (length text) i
         (record {
           low = omega arith;
           high = omega arith;
-          passes = test-of-unknown text i (u .unknown);
-          earlier = λ j l h. fails-of-known text j (omega arith) (u .none-before j h);
+          passes = unknown-law text i (u .unknown .there) .1 (u .unknown);
+          earlier = λ j l h. fails-law (unknown-law text j (omega arith)) .1 (u .none-before j h);
         }),
   )
 
@@ -84,14 +82,13 @@ module _ (letters : List Letter) where
   unfolding firstUnknown
   none-unknown-exactly-when text = (
     λ e i u.
-        clash (test-of-unknown text i u)
+        clash (unknown-law text i (u .there) .1 u)
         (first-missing (λ j. isUnknown letters (getD text j 0)) 0 (length text) e i (omega arith) (omega arith)),
-    λ known. first-is-not (λ j. isUnknown letters (getD text j 0)) 0 (length text) (λ j l h. fails-of-known text j (omega arith) (known j)),
+    λ known. first-is-not (λ j. isUnknown letters (getD text j 0)) 0 (length text) (λ j l h. fails-law (unknown-law text j (omega arith)) .1 (known j)),
   )
 
 -- a sound table has the blank, so a line feed is never unknown
-pub line-feed-known : {table : Table} {text : List ℕ} {i : ℕ} → Sound table → UnknownAt (table .letters) text i → getD text i 0 ≢ lineFeed
+pub line-feed-known : {classes variables : ℕ} {table : Table} {text : List ℕ} {i : ℕ} → Sound classes variables table
+    → UnknownAt (table .letters) text i → getD text i 0 ≢ lineFeed
 unfolding unfed
-line-feed-known sound u e =
-    let h = sound .has-blank in
-    u .no-letter (h .at) (h .there) (h .same ∙ sym (ap unfed e))
+line-feed-known {table} sound u e = u .no-letter (subst (HasLetter (table .letters)) (sym (ap unfed e)) (sound .blank-known))

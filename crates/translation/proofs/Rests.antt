@@ -1,6 +1,6 @@
--- What begins a rest, and what stands in a list, one place after another.
+-- What begins a rest, one place after another.
 use Prim.Native.Nat.{ℕ, _+_, _≤_, _<_}
-use mathlib.Core.Bool.{Bool, true, false, _&&_, _||_}
+use mathlib.Core.Bool.{Bool, true, false, _&&_}
 use mathlib.Core.List.{List, [], _∷_}
 use mathlib.Core.Logic.{_≢_}
 use mathlib.Core.Path.{_≡_, refl, _∙_, ap}
@@ -10,7 +10,6 @@ use lib.Dec.{eqb}
 use lib.ListN.{length, getD, drop, drop-of-length-le}
 use lib.Seq.{drop-cons}
 use borrow.Author.Tests.{eq-eqb, ne-eqb}
-use Rattle.table.specs.Search.{member}
 use Rattle.translation.specs.Choose.{begins}
 
 and-false : (b : Bool) → b && false ≡ false
@@ -38,18 +37,3 @@ module _ (string rest : List ℕ) (i : ℕ) (here : i < length string) (there : 
 pub begins-end : (string rest : List ℕ) (i : ℕ) → length string ≤ i → begins (drop i string) rest ≡ true
 unfolding begins
 begins-end string rest i l = rw (drop-of-length-le string l)
-
-module _ (c : ℕ) (xs : List ℕ) (i : ℕ) (here : i < length xs) where
-  member-from : member c (drop i xs) ≡ (eqb (getD xs i 0) c || member c (drop (i + 1) xs))
-  unfolding member
-  member-from = rw (drop-cons xs i 0 here, add-one)
-
-  pub member-here : getD xs i 0 ≡ c → member c (drop i xs) ≡ true
-  member-here e = member-from ∙ rw (eq-eqb (getD xs i 0) c e)
-
-  pub member-later : getD xs i 0 ≢ c → member c (drop i xs) ≡ member c (drop (i + 1) xs)
-  member-later n = member-from ∙ rw (ne-eqb (getD xs i 0) c n)
-
-pub member-end : (c : ℕ) (xs : List ℕ) (i : ℕ) → length xs ≤ i → member c (drop i xs) ≡ false
-unfolding member
-member-end c xs i l = rw (drop-of-length-le xs l)

@@ -11,7 +11,7 @@ use lib.Seq.{drop-cons}
 use borrow.Author.Tests.{eq-eqb, ne-eqb, lt-ltb, le-ltb}
 use Rattle.table.specs.Numbers.{bar, blank}
 use Rattle.translation.specs.Collapse.{unfed, unbarred, keptAfter, thinned, collapsed}
-use Rattle.translation.specs.Inside.{Thins, Wrote}
+use Rattle.translation.specs.Inside.{Thins, WroteUntil}
 use Rattle.translation.specs.Numbers.{keptBlanks}
 use Rattle.translation.specs.declared.collapsing.Run.{Run}
 use Rattle.translation.proofs.Writing.{wrote-nothing, wrote-one, wrote-then}
@@ -68,7 +68,7 @@ module _ {c : ℕ} {run : Run} {before : List ℕ} where
 -- what is written, and then what is to come from place `i` on, is the collapsed text
 pub record Collapsing (text before after : List ℕ) (run : Run) (i : ℕ) : Type 0 where
   pub done : List ℕ
-  pub wrote : Wrote before 0 done after (run .written)
+  pub wrote : WroteUntil before 0 done after (run .written)
   pub no-more : run .written ≤ i
   pub within : i ≤ length text
   pub whole : done ++ thinned (run .kept) (unbarred (drop i text)) ≡ collapsed text
@@ -97,8 +97,8 @@ module _ {text before after : List ℕ} {run : Run} {i : ℕ} (p : Collapsing te
             rw (append-assoc, add-one) (ap (λ (l : List ℕ). p .done ++ l) (t .whole (drop (suc i) text)) ∙ rw (drop-cons text i 0 l) at (p .whole));
       }
 
-  pub collapsing-ends : length text ≤ i → Wrote before 0 (collapsed text) after (run .written)
+  pub collapsing-ends : length text ≤ i → WroteUntil before 0 (collapsed text) after (run .written)
   unfolding thinned unbarred
   collapsing-ends l =
-      subst (λ (xs : List ℕ). Wrote before 0 xs after (run .written))
+      subst (λ (xs : List ℕ). WroteUntil before 0 xs after (run .written))
       (sym (append-nil (p .done)) ∙ rw (drop-of-length-le text l) at (p .whole)) (p .wrote)

@@ -3,8 +3,9 @@
 use Prim.Native.Nat.{ℕ, _+_, _≤_}
 use mathlib.Core.List.{List, [], _∷_, _++_}
 use mathlib.Core.Path.{_≡_}
-use lib.ListN.{length, take, drop}
+use lib.ListN.{length}
 use Rattle.table.specs.Table.{Letter, Entry}
+use Rattle.table.specs.Wrote.{Wrote}
 use Rattle.translation.specs.Collapse.{unbarred, thinned}
 use Rattle.translation.specs.Pieces.{Piece, printed, signsOf}
 use Rattle.translation.specs.declared.collapsing.Run.{Run}
@@ -13,13 +14,9 @@ use Rattle.translation.specs.declared.piecing.Counts.{Counts}
 
 -- ---- Writing
 
--- `xs` written over `before` from place `n` on, and everything else as it was
-unfoldable pub overwritten : List ℕ → ℕ → List ℕ → List ℕ
-overwritten before n xs = take n before ++ xs ++ drop (n + length xs) before
-
 -- `xs` is written at place `n`, where there is room for it; `next` is the place after it
-pub record Wrote (before : List ℕ) (n : ℕ) (xs after : List ℕ) (next : ℕ) : Type 0 where
-  pub bytes : after ≡ overwritten before n xs
+pub record WroteUntil (before : List ℕ) (n : ℕ) (xs after : List ℕ) (next : ℕ) : Type 0 where
+  pub bytes : Wrote before n xs after
   pub place : next ≡ n + length xs
   pub room : next ≤ length before
 
@@ -29,7 +26,7 @@ pub record Wrote (before : List ℕ) (n : ℕ) (xs after : List ℕ) (next : ℕ
 pub record Thins (c : ℕ) (run : Run) (before : List ℕ) (next : Run) (after : List ℕ) : Type 0 where
   pub added : List ℕ
   pub at-most-one : length added ≤ 1
-  pub wrote : Wrote before (run .written) added after (next .written)
+  pub wrote : WroteUntil before (run .written) added after (next .written)
   pub whole : (text : List ℕ) → added ++ thinned (next .kept) (unbarred text) ≡ thinned (run .kept) (unbarred (c ∷ text))
 
 -- ---- Pieces
@@ -38,7 +35,7 @@ pub record Thins (c : ℕ) (run : Run) (before : List ℕ) (next : Run) (after :
 pub record Made (shift class : ℕ) (signs before : List ℕ) (n : ℕ) (after : List ℕ) (made : MadePiece) : Type 0 where
   pub shift-is : made .shift ≡ shift
   pub class-is : made .class ≡ class
-  pub wrote : Wrote before n (printed signs) after (made .next)
+  pub wrote : WroteUntil before n (printed signs) after (made .next)
 
 -- a piece is made by an entry, or by the record of a character alone
 abbrev pub MadeByEntry : Entry → List ℕ → ℕ → List ℕ → MadePiece → Type 0
@@ -54,4 +51,4 @@ MadeAs p before n after made = Made (p .shift) (p .class) (p .signs) before n af
 -- these pieces are all made: they are counted, and their signs stand at the front
 pub record Consumed (pieces : List Piece) (before after : List ℕ) (counts : Counts) : Type 0 where
   pub counted : counts .pieces ≡ length pieces
-  pub wrote : Wrote before 0 (signsOf pieces) after (counts .signs)
+  pub wrote : WroteUntil before 0 (signsOf pieces) after (counts .signs)

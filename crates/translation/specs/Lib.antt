@@ -4,7 +4,6 @@ pub mod Letters
 pub mod Decide
 pub mod Choose
 pub mod Pieces
-pub mod Found
 pub mod Opened
 pub mod States
 pub mod Inside
@@ -12,7 +11,6 @@ pub mod Translate
 pub mod Promises
 pub mod Refusals
 pub mod Signs
-pub mod Sound
 pub mod Admissible
 pub mod Chosen
 pub mod Moved

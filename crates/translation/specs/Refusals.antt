@@ -2,28 +2,20 @@
 use Prim.Native.Nat.{ℕ, _<_}
 use mathlib.Core.List.{List}
 use mathlib.Core.Logic.{_≢_}
-use mathlib.Core.Path.{_≡_}
 use lib.ListN.{length, getD}
 use Rattle.table.specs.Numbers.{bar, mostText}
-use Rattle.table.specs.Table.{Letter}
+use Rattle.table.specs.Table.{Letter, HasLetter}
 use Rattle.translation.specs.Collapse.{unfed}
-use Rattle.translation.specs.Letters.{letter}
 
 -- 6: text over 16,384 bytes
 abbrev pub TextTooLong : List ℕ → Type 0
 TextTooLong text = mostText < length text
 
--- the alphabet has a record for the character
-pub record HasLetter (letters : List Letter) (c : ℕ) : Type 0 where
-  pub at : ℕ
-  pub there : at < length letters
-  pub same : letter letters at .symbol ≡ c
-
 -- 7: at place `i` of the text as lent stands a character without alphabet record; a bar needs none, and a line feed counts as a blank
 pub record UnknownAt (letters : List Letter) (text : List ℕ) (i : ℕ) : Type 0 where
   pub there : i < length text
   pub no-bar : getD text i 0 ≢ bar
-  pub no-letter : (k : ℕ) → k < length letters → letter letters k .symbol ≢ unfed (getD text i 0)
+  pub no-letter : HasLetter letters (unfed (getD text i 0)) → ⊥
 
 -- the first one
 pub record FirstUnknownAt (letters : List Letter) (text : List ℕ) (i : ℕ) : Type 0 where

@@ -4,18 +4,18 @@ ghost use mathlib.Core.Path.{_≡_};
 ghost use Prim.Native.Nat.{_≤_};
 ghost use lib.ListN.{length};
 ghost use Rattle.table.specs.Table.{tableIn};
+ghost use Rattle.table.specs.Found.{found};
 ghost use Rattle.table.specs.Numbers.{mostText};
 ghost use Rattle.translation.specs.Letters.{letterOf, letterFor, classOf, isUnknown, firstUnknown};
 ghost use Rattle.translation.specs.Opened.{Opened};
-ghost use Rattle.translation.specs.Found.{found};
-use crate::Found;
 use crate::collapsing;
+use table::Found;
 use table::Sections;
 
 // Which record of the alphabet has the symbol: `at` is where each record's symbol lies.
 fn letter_of(image: &[u8], s: Sections, c: u8) -> Found
     requires { ⌜ Opened (now image) s ⌝ }
-    ensures { λ r. ⌜ found r ≡ letterOf (tableIn (now (image .entry)) s .letters) c ⌝ }
+    ensures { λ r. ⌜ r ≡ found (letterOf (tableIn (now (image .entry)) s .letters) c) ⌝ }
 {
     let alphabet = s.alphabet;
     let n = alphabet.records;
@@ -73,7 +73,7 @@ fn is_unknown(image: &[u8], s: Sections, c: u8) -> bool
 pub(crate) fn first_unknown(image: &[u8], s: Sections, text: &[u8]) -> Found
     requires { ⌜ Opened (now image) s ⌝ }
     requires { ⌜ length (now text) ≤ mostText ⌝ }
-    ensures { λ r. ⌜ found r ≡ firstUnknown (tableIn (now (image .entry)) s .letters) (now (text .entry)) ⌝ }
+    ensures { λ r. ⌜ r ≡ found (firstUnknown (tableIn (now (image .entry)) s .letters) (now (text .entry))) ⌝ }
 {
     let mut i = 0;
     while i < text.len() {

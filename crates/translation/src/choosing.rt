@@ -8,16 +8,16 @@ ghost use Rattle.table.specs.Numbers.{entrySize, lengthByte, stringByte, leastL
 ghost use Rattle.table.specs.Search.{member};
 ghost use Rattle.table.specs.Sections.{offset, recordByte, recordPart};
 ghost use Rattle.table.specs.Table.{tableIn, entryAt};
+ghost use Rattle.table.specs.Found.{found};
 ghost use Rattle.table.specs.Refusals.{Between};
 ghost use Rattle.translation.specs.Choose.{begins, classAfter, contextHolds, admissible, entry, choice};
 ghost use Rattle.translation.specs.Opened.{Opened};
 ghost use Rattle.translation.specs.States.{statesIn};
-ghost use Rattle.translation.specs.Found.{found};
-use crate::Found;
 use crate::Setting;
 use crate::alphabet::class_of;
 use crate::deciding::decide;
 use crate::variables::States;
+use table::Found;
 use table::Section;
 use table::Sections;
 
@@ -121,7 +121,7 @@ pub(crate) fn search(
 ) -> Found
     requires { ⌜ Opened (now image) s ⌝ }
     requires { ⌜ 0 < length (now rest) ⌝ }
-    ensures { λ r. ⌜ found r ≡ choice (tableIn (now (image .entry)) s) setting (statesIn s states) (now (rest .entry)) ⌝ }
+    ensures { λ r. ⌜ r ≡ found (choice (tableIn (now (image .entry)) s) setting (statesIn s states) (now (rest .entry))) ⌝ }
 {
     let entries = s.contractions;
     let n = entries.records;

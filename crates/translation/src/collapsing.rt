@@ -4,7 +4,7 @@ ghost use mathlib.Core.Path.{_≡_};
 ghost use Prim.Native.Nat.{_≤_, _<_};
 ghost use lib.ListN.{length};
 ghost use Rattle.translation.specs.Collapse.{unfed, keptAfter, collapsed};
-ghost use Rattle.translation.specs.Inside.{Thins, Wrote};
+ghost use Rattle.translation.specs.Inside.{Thins, WroteUntil};
 
 // How far collapsing has come: how many characters are written, and how many blanks are kept of a run that stands here.
 struct Run {
@@ -57,7 +57,7 @@ fn thin(c: u8, run: Run, out: &mut [u8]) -> Run
 // Collapses the text into the front of `out` and answers how many characters that are.
 pub(crate) fn collapse(text: &[u8], out: &mut [u8]) -> usize
     requires { ⌜ length (now text) ≤ length (now out) ⌝ }
-    ensures { λ r. ⌜ Wrote (now (out .entry)) 0 (collapsed (now (text .entry))) (now (out .exit)) r ⌝ }
+    ensures { λ r. ⌜ WroteUntil (now (out .entry)) 0 (collapsed (now (text .entry))) (now (out .exit)) r ⌝ }
 {
     let mut run = Run {
         written: 0,

@@ -24,12 +24,6 @@ pub struct Terms {
     pub also: Verdict,
 }
 
-// What a search answers: the number of a record, or a place of the text.
-pub(crate) enum Found {
-    At(u16),
-    Nothing,
-}
-
 // What a translation answers: how many pieces and how many signs, or the refusal.
 pub enum Translation {
     Done { pieces: usize, signs: usize },

@@ -12,8 +12,7 @@ ghost use Rattle.translation.specs.Letters.{letterFor};
 ghost use Rattle.translation.specs.Pieces.{printed, frontPiece, piecesIn};
 ghost use Rattle.translation.specs.Opened.{Opened};
 ghost use Rattle.translation.specs.States.{statesIn};
-ghost use Rattle.translation.specs.Inside.{Wrote, MadeByEntry, MadeByLetter, MadeAs, Consumed};
-use crate::Found;
+ghost use Rattle.translation.specs.Inside.{WroteUntil, MadeByEntry, MadeByLetter, MadeAs, Consumed};
 use crate::Setting;
 use crate::alphabet::class_of;
 use crate::alphabet::sign_of;
@@ -21,6 +20,7 @@ use crate::choosing::search;
 use crate::variables::States;
 use crate::variables::moved;
 use crate::variables::start;
+use table::Found;
 use table::Sections;
 
 // A piece that is made: how many characters it takes, its class, and the place after its signs.
@@ -46,7 +46,7 @@ fn cell_of(sign: u8) -> u8
 // Writes a sign, unless it is 99, and answers the place after it.
 fn print(sign: u8, signs: &mut [u8], at: usize) -> usize
     requires { ⌜ at < length (now signs) ⌝ }
-    ensures { λ r. ⌜ Wrote (now (signs .entry)) at (printed (sign ∷ [])) (now (signs .exit)) r ⌝ }
+    ensures { λ r. ⌜ WroteUntil (now (signs .entry)) at (printed (sign ∷ [])) (now (signs .exit)) r ⌝ }
 {
     if sign == 99 {
         return at;
@@ -58,7 +58,7 @@ fn print(sign: u8, signs: &mut [u8], at: usize) -> usize
 // Writes the signs of an entry one after another, and answers the place after them.
 fn print_all(list: &[u8], signs: &mut [u8], at: usize) -> usize
     requires { ⌜ at + length (now list) ≤ length (now signs) ⌝ }
-    ensures { λ r. ⌜ Wrote (now (signs .entry)) at (printed (now (list .entry))) (now (signs .exit)) r ⌝ }
+    ensures { λ r. ⌜ WroteUntil (now (signs .entry)) at (printed (now (list .entry))) (now (signs .exit)) r ⌝ }
 {
     let mut next = at;
     let mut i = 0;

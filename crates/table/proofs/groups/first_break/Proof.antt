@@ -8,7 +8,7 @@ use Rattle.table.specs.Table.{tableIn}
 use Rattle.table.specs.Grouping.{breaksAt, firstBreak}
 use Rattle.table.specs.Verdict.{strings}
 use Rattle.table.specs.Found.{found}
-use Rattle.table.proofs.Search.{first-is, first-is-not}
+use Rattle.table.proofs.Search.{found-first, found-none}
 use Rattle.table.proofs.GroupLaws.{keeps-by, strings-length}
 use Rattle.table.proofs.groups.first_break.Statement.{statement}
 use Rattle.table.proofs.groups.first_break.Tie as tie
@@ -34,8 +34,7 @@ returns c =
     let breaks = sym (c .before .breaks-at .ensures) ∙ c .if1 .taken in
     sym
     (ap found
-    (first-is (breaksAt (strings (tableIn (a .image .now) (a .s)))) 0 _ (l .r)
-    (record { low = omega arith; high = omega arith; passes = breaks; earlier = λ k _ u. l .inv .1 k u })))
+    (found-first (breaksAt (strings (tableIn (a .image .now) (a .s)))) _ (l .r) (l .inv .1) (omega arith) breaks))
 
 add-r : tie.Need-add-r Inv-loop μ-loop
 add-r c = omega arith
@@ -53,7 +52,7 @@ unfolding firstBreak
 returns-2 c =
     let a = c .before .before .before .args in
     let n = strings-length (a .image .now) (a .s) in
-    sym (ap found (first-is-not (breaksAt (strings (tableIn (a .image .now) (a .s)))) 0 _ (λ k _ u. c .before .loop .inv .1 k (omega arith))))
+    sym (ap found (found-none (breaksAt (strings (tableIn (a .image .now) (a .s)))) _ (c .before .loop .r) (c .before .loop .inv .1) (omega arith)))
 
 pub first-break-spec : {M : Type 1} → statement M
 first-break-spec =

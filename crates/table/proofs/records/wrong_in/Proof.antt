@@ -8,7 +8,7 @@ use native.Mathlib.Omega.{arith}
 use Rattle.table.specs.Records.{sectionNamed}
 use Rattle.table.specs.Found.{found}
 use Rattle.table.specs.Judging.{nameAt, wrongAt}
-use Rattle.table.proofs.Search.{first-is, first-is-not}
+use Rattle.table.proofs.Search.{found-first, found-none}
 use Rattle.table.specs.declared.Section.{Section}
 use Rattle.table.proofs.records.wrong_in.Statement.{statement}
 use Rattle.table.proofs.records.wrong_in.Tie as tie
@@ -43,13 +43,8 @@ returns c =
     let inv = c .before .before .before .loop .inv in
     ap found
     (sym
-    (first-is (wrongAt (a .image .now) (a .s) (a .i)) 0 _ (c .before .before .before .loop .k)
-    (record {
-      low = omega arith;
-      high = omega arith;
-      passes = ap not (sym (c .before .record-right .ensures)) ∙ c .if1 .taken;
-      earlier = λ j _ l. inv .1 j l;
-    })))
+    (found-first (wrongAt (a .image .now) (a .s) (a .i)) _ (c .before .before .before .loop .k) (inv .1) (omega arith)
+    (ap not (sym (c .before .record-right .ensures)) ∙ c .if1 .taken)))
 
 add-k : tie.Need-add-k Inv-loop μ-loop
 add-k c = omega arith
@@ -65,7 +60,7 @@ returns-2 : tie.Need-returns-2 Inv-loop μ-loop
 returns-2 c =
     let a = c .before .before .before .before .args in
     let e = counted (c .before .before) in
-    ap found (sym (first-is-not (wrongAt (a .image .now) (a .s) (a .i)) 0 _ (λ j _ l. c .before .loop .inv .1 j (omega arith))))
+    ap found (sym (found-none (wrongAt (a .image .now) (a .s) (a .i)) _ (c .before .loop .k) (c .before .loop .inv .1) (omega arith)))
 
 pub wrong-in-spec : {M : Type 1} → statement M
 wrong-in-spec =

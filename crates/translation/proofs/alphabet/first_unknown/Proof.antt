@@ -1,15 +1,17 @@
 -- `translation::alphabet::first_unknown` meets its contract. The loop's invariant: no character before `i` is unknown.
+use borrow.Author.Count.{below-more}
 use borrow.Author.Needs.{needs}
-use Prim.Native.Nat.{ℕ, _≤_, _-_}
-use mathlib.Core.Bool.{Bool}
+use Prim.Native.Nat.{ℕ, _≤_, _<_, _-_}
+use mathlib.Core.Bool.{Bool, false}
 use mathlib.Core.List.{List}
-use mathlib.Core.Path.{sym, _∙_}
+use mathlib.Core.Path.{_≡_, sym, _∙_, ap}
 use native.Mathlib.Omega.{arith}
 use lib.ListN.{length, getD}
 use Rattle.table.specs.Table.{tableIn}
+use Rattle.table.specs.Found.{found}
 use Rattle.table.specs.declared.Sections.{Sections}
+use Rattle.table.proofs.Search.{found-first, found-none}
 use Rattle.translation.specs.Letters.{isUnknown, firstUnknown}
-use Rattle.translation.proofs.Loops.{NoneBelow, none-yet, none-more, found-first, found-none}
 use Rattle.translation.proofs.alphabet.first_unknown.Statement.{statement}
 use Rattle.translation.proofs.alphabet.first_unknown.Tie as tie
 
@@ -17,13 +19,13 @@ abbrev unknown : List ℕ → Sections → List ℕ → ℕ → Bool
 unknown image s text i = isUnknown (tableIn image s .letters) (getD text i 0)
 
 abbrev Inv-loop : tie.InvT-loop
-Inv-loop image s text i₀ i = (i ≤ length text) × NoneBelow (unknown image s text) i
+Inv-loop image s text i₀ i = (i ≤ length text) × ((j : ℕ) → j < i → unknown image s text j ≡ false)
 
 abbrev μ-loop : tie.MeasureT-loop
 μ-loop image s text i₀ i = length text - i
 
 loop-holds : tie.Need-loop-holds Inv-loop μ-loop
-loop-holds c = (omega arith, none-yet _)
+loop-holds c = (omega arith, λ j u. absurd (omega arith))
 
 shared-slice-read-is-unknown : tie.Need-shared-slice-read-is-unknown Inv-loop μ-loop
 shared-slice-read-is-unknown c = search needs
@@ -39,9 +41,10 @@ unfolding firstUnknown
 returns c =
     let a = c .before .before .before .before .before .before .before .args in
     let l = c .before .before .before .before .loop in
-    sym
+    ap found
+    (sym
     (found-first (unknown (a .image .now) (a .s) (a .text .now)) (length (a .text .now)) (l .i) (l .inv .1) (search needs)
-    (sym (c .before .is-unknown .ensures) ∙ c .if1 .taken))
+    (sym (c .before .is-unknown .ensures) ∙ c .if1 .taken)))
 
 add-i : tie.Need-add-i Inv-loop μ-loop
 add-i c = search needs
@@ -51,11 +54,11 @@ loop-less c = omega arith
 
 loop-again : tie.Need-loop-again Inv-loop μ-loop
 loop-again c =
-    (omega arith, none-more _ _ (c .before .before .before .before .loop .inv .1) (sym (c .before .is-unknown .ensures) ∙ c .if1 .left))
+    (omega arith, below-more _ _ (c .before .before .before .before .loop .inv .1) (sym (c .before .is-unknown .ensures) ∙ c .if1 .left))
 
 returns-2 : tie.Need-returns-2 Inv-loop μ-loop
 unfolding firstUnknown
-returns-2 c = sym (found-none _ _ _ (c .before .loop .inv .1) (search needs))
+returns-2 c = ap found (sym (found-none _ _ _ (c .before .loop .inv .1) (search needs)))
 
 pub first-unknown-spec : {M : Type 1} → statement M
 first-unknown-spec =

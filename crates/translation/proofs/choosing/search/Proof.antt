@@ -1,8 +1,9 @@
 -- `translation::choosing::search` meets its contract. The loop's invariant: no entry before `k` is admissible, and `at` is where the first character of
 -- entry `k` lies. An entry whose first character is another than the rest's is passed over: its string doesn't begin the rest.
+use borrow.Author.Count.{below-more}
 use borrow.Author.Needs.{needs}
 use Prim.Native.Nat.{ℕ, _+_, _≤_, _<_, _-_}
-use mathlib.Core.Bool.{Bool}
+use mathlib.Core.Bool.{Bool, false}
 use mathlib.Core.List.{List}
 use mathlib.Core.Logic.{⊎-elim}
 use mathlib.Core.Path.{_≡_, sym, _∙_, ap}
@@ -11,13 +12,14 @@ use lib.ListN.{length, getD}
 use Rattle.table.specs.Numbers.{stringByte}
 use Rattle.table.specs.Sections.{byteAt, offset, recordByte}
 use Rattle.table.specs.Table.{tableIn}
+use Rattle.table.specs.Found.{found}
 use Rattle.table.specs.declared.Sections.{Sections}
 use Rattle.table.proofs.Reading.{entries-long}
+use Rattle.table.proofs.Search.{found-first, found-none}
 use Rattle.translation.specs.Decide.{States}
 use Rattle.translation.specs.Choose.{admissible, entry, choice}
 use Rattle.translation.specs.States.{statesIn}
 use Rattle.translation.specs.declared.Setting.{Setting}
-use Rattle.translation.proofs.Loops.{NoneBelow, none-yet, none-more, found-first, found-none}
 use Rattle.translation.proofs.Entries.{first-differs}
 use Rattle.translation.proofs.Offsets.{walk-starts, walk-goes-on, walk-fits}
 use Rattle.translation.proofs.choosing.search.Statement.{statement}
@@ -28,7 +30,7 @@ passes image s setting states rest k = admissible (tableIn image s) setting stat
 
 abbrev Inv-loop : tie.InvT-loop
 Inv-loop image s setting states rest n size first at₀ k₀ at k =
-    (k ≤ n) × (at ≡ offset (s .contractions) k + stringByte) × NoneBelow (passes image s setting (statesIn s states) rest) k
+    (k ≤ n) × (at ≡ offset (s .contractions) k + stringByte) × ((j : ℕ) → j < k → passes image s setting (statesIn s states) rest j ≡ false)
 
 abbrev μ-loop : tie.MeasureT-loop
 μ-loop image s setting states rest n size first at₀ k₀ at k = n - k
@@ -46,7 +48,7 @@ add-at : tie.Need-add-at Inv-loop μ-loop
 add-at c = search needs
 
 loop-holds : tie.Need-loop-holds Inv-loop μ-loop
-loop-holds c = (omega arith, walk-starts (c .before .before .before .before .before .before .args .s .contractions) stringByte, none-yet _)
+loop-holds c = (omega arith, walk-starts (c .before .before .before .before .before .before .args .s .contractions) stringByte, λ j u. absurd (omega arith))
 
 shared-slice-read-if1 : tie.Need-shared-slice-read-if1 Inv-loop μ-loop
 shared-slice-read-if1 c =
@@ -64,10 +66,11 @@ unfolding choice
 returns c =
     let a = c .before .before .before .before .before .before .before .before .before .before .before .before .args in
     let l = c .before .before .before .before .before .loop in
-    sym
+    ap found
+    (sym
     (found-first (passes (a .image .now) (a .s) (a .setting) (statesIn (a .s) (a .states)) (a .rest .now)) (length (tableIn (a .image .now) (a .s) .entries))
     (l .k) (l .inv .2) (omega (arith, entries-long (a .image .now) (a .s)))
-    (sym (c .before .admits .ensures) ∙ c .if2 .taken))
+    (sym (c .before .admits .ensures) ∙ c .if2 .taken)))
 
 add-at-2 : tie.Need-add-at-2 Inv-loop μ-loop
 add-at-2 c =
@@ -91,7 +94,7 @@ loop-again c =
     let there : l .k < a .s .contractions .records = search needs in (
       omega arith,
       walk-goes-on (a .s .contractions) stringByte (l .k) (l .at) (l .inv .1),
-      none-more _ _ (l .inv .2)
+      below-more _ _ (l .inv .2)
           (⊎-elim
           (λ w. sym (w .1 .ensures) ∙ w .2 .left)
           (λ w.
@@ -104,7 +107,7 @@ returns-2 : tie.Need-returns-2 Inv-loop μ-loop
 unfolding choice
 returns-2 c =
     let a = c .before .before .before .before .before .before .before .before .args in
-    sym (found-none _ _ _ (c .before .loop .inv .2) (omega (arith, entries-long (a .image .now) (a .s))))
+    ap found (sym (found-none _ _ _ (c .before .loop .inv .2) (omega (arith, entries-long (a .image .now) (a .s)))))
 
 pub search-spec : {M : Type 1} → statement M
 search-spec =

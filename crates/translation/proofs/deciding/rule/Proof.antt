@@ -1,13 +1,10 @@
 -- `translation::deciding::rule` meets its contract: the byte of the class is tested as the definition tests it, and the conditions are asked only
 -- where they matter.
 use borrow.Author.Needs.{needs}
-use mathlib.Core.Path.{_≡_, sym, _∙_, ap}
+use mathlib.Core.Path.{_≡_}
 use native.Mathlib.Omega.{arith}
-use mathlib.Core.List.{List}
-use Prim.Native.Nat.{ℕ}
 use borrow.Author.Tests.{ne-eqb}
 use Rattle.translation.specs.Decide.{byteOfClass, ruling}
-use Rattle.translation.proofs.Records.{by-class}
 use Rattle.translation.proofs.deciding.rule.Statement.{statement}
 use Rattle.translation.proofs.deciding.rule.Tie as tie
 use Rattle.table.specs.Table.{columnAt}
@@ -26,9 +23,8 @@ entered c = c .before .before .before
 read : (c : tie.After-byte-of-class)
     → c .byte-of-class .result
     ≡ byteOfClass (columnAt (entered c .args .image .now) (entered c .args .s) (entered c .args .k) .byClass) (entered c .args .c)
-read c =
-    let a = entered c .args in
-    c .byte-of-class .ensures ∙ ap (λ (bytes : List ℕ). byteOfClass bytes (a .c)) (sym (by-class (a .image .now) (a .s) (a .k)))
+unfolding columnAt
+read c = c .byte-of-class .ensures
 
 returns : tie.Need-returns
 unfolding ruling

@@ -4,7 +4,8 @@ use mathlib.Core.Path.{_≡_, _∙_, ap}
 use native.Mathlib.Omega.{arith}
 use lib.ListN.{length}
 use Rattle.table.specs.Table.{entryAt}
-use Rattle.translation.proofs.Entries.{signs-long, signs-read}
+use Rattle.table.proofs.Sound.{sound-entry}
+use Rattle.translation.proofs.Entries.{signs-read}
 use Rattle.translation.proofs.piecing.by_entry.Statement.{statement}
 use Rattle.translation.proofs.piecing.by_entry.Tie as tie
 
@@ -26,7 +27,8 @@ print-all-requires : tie.Need-print-all-requires
 print-all-requires c κs =
     let start = entered (c .before) in
     let a = start .args in
-    let four = ap length (read (c .before)) ∙ signs-long (a .image .now) (a .s) (start .pre .0) (a .k) (start .pre .1 .0) in
+    let right = sound-entry (a .image .now) (a .s) (start .pre .0 .laid) (start .pre .0 .right) (a .k) (start .pre .1 .0) in
+    let four = ap length (read (c .before)) ∙ right .four-signs in
     let room = start .pre .1 .1 in
     omega arith
 

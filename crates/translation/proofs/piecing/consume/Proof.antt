@@ -6,12 +6,13 @@ use mathlib.Core.List.{List}
 use native.Mathlib.Omega.{arith}
 use lib.ListN.{length, drop, length-drop}
 use Rattle.table.specs.Table.{tableIn}
+use Rattle.table.proofs.Sound.{sound-entries}
 use Rattle.translation.specs.Pieces.{frontPiece}
 use Rattle.translation.specs.States.{statesIn}
 use Rattle.translation.specs.Inside.{MadeAs}
 use Rattle.translation.proofs.Moving.{start-held}
 use Rattle.translation.proofs.Writing.{wrote-long}
-use Rattle.translation.proofs.Fronts.{front-fits}
+use Rattle.translation.proofs.Chosen.{front-fits}
 use Rattle.translation.proofs.Cursor.{rest-lent, Piecing, piecing-starts, piecing-goes-on, piecing-ends}
 use Rattle.translation.proofs.piecing.consume.Statement.{statement}
 use Rattle.translation.proofs.piecing.consume.Tie as tie
@@ -86,7 +87,8 @@ takes c =
     let here : l .at < length (a .text .now) = search needs in
     let rest = length-drop (l .at) (a .text .now) in
     let states = statesIn (a .s) (l .states) in
-    let f = front-fits (a .image .now) (a .s) (a .setting) states (drop (l .at) (a .text .now)) (start .pre .0) (omega arith) in
+    let right = sound-entries (a .image .now) (a .s) (start .pre .0 .laid) (start .pre .0 .right) in
+    let f = front-fits (tableIn (a .image .now) (a .s)) (a .setting) right states (drop (l .at) (a .text .now)) (omega arith) in
     let shift = made c .shift-is in
     record { least = omega (arith, f .least); most = omega (arith, f .most) }
 

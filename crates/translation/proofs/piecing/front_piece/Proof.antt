@@ -1,7 +1,7 @@
 -- `translation::piecing::front_piece` meets its contract: what the search finds is the definition's choice, and the piece is made by it.
 use borrow.Author.Needs.{needs}
-use mathlib.Core.Path.{sym, _∙_, ap}
-use Rattle.translation.specs.Found.{found}
+use mathlib.Core.Path.{sym, _∙_}
+use Rattle.table.proofs.Search.{found-at, found-nothing}
 use Rattle.translation.specs.States.{statesIn}
 use Rattle.translation.proofs.Fronts.{chosen-there, made-by-entry, made-by-letter}
 use Rattle.translation.proofs.piecing.front_piece.Statement.{statement}
@@ -17,7 +17,7 @@ by-entry-requires : tie.Need-by-entry-requires
 by-entry-requires c κs =
     let start = c .before .before .before .before .before .before .before .before in
     let a = start .args in
-    let e = sym (c .before .before .before .before .search .ensures) ∙ ap found (c .before .before .k .given .1) in
+    let e = found-at _ _ (sym (c .before .before .before .before .search .ensures) ∙ c .before .before .k .given .1) in
     (start .pre .0, (chosen-there (a .image .now) (a .s) (a .setting) (statesIn (a .s) (a .states)) (a .rest .now) _ e, start .pre .1 .1))
 
 enum-told : tie.Need-enum-told
@@ -37,7 +37,7 @@ returns c =
     let start = c .before .before .before .before .before .before .before .before .before .before .before in
     let a = start .args in
     let known = c .before .before .before .before .before in
-    let e = sym (known .before .before .search .ensures) ∙ ap found (known .k .given .1) in
+    let e = found-at _ _ (sym (known .before .before .search .ensures) ∙ known .k .given .1) in
     made-by-entry (a .image .now) (a .s) (a .setting) (statesIn (a .s) (a .states)) (a .rest .now) _ e (c .before .before .by-entry .ensures)
 
 same-length-2 : tie.Need-same-length-2
@@ -48,7 +48,7 @@ returns-2 c =
     let start = c .before .before .before .before .before .before .before .before .before .before .before in
     let a = start .args in
     let told = c .before .before .before .before .before in
-    let e = sym (told .before .before .search .ensures) ∙ ap found (told .enum-told .given .1) in
+    let e = found-nothing _ (sym (told .before .before .search .ensures) ∙ told .enum-told .given .1) in
     made-by-letter (a .image .now) (a .s) (a .setting) (statesIn (a .s) (a .states)) (a .rest .now) (start .pre .1 .0) e
     (c .before .before .by-letter .ensures)
 

@@ -1,9 +1,9 @@
 -- `translation::translating::translate_by` meets its contract: a text that is too long, the first unknown character, and otherwise the pieces of the
 -- collapsed text, which stands at the front of the local buffer.
 use borrow.Author.Needs.{needs}
-use mathlib.Core.Path.{sym, _∙_, ap}
+use mathlib.Core.Path.{sym, _∙_}
 use native.Mathlib.Omega.{arith}
-use Rattle.translation.specs.Found.{found}
+use Rattle.table.proofs.Search.{found-at, found-nothing}
 use Rattle.translation.specs.Pieces.{piecesOf}
 use Rattle.translation.proofs.Collapse.{collapsed-at-most}
 use Rattle.translation.proofs.Writing.{front-long, front-is}
@@ -51,7 +51,7 @@ consume-requires c κs =
 returns-2 : tie.Need-returns-2
 returns-2 c =
     let known = c .before in
-    let place = sym (known .before .before .first-unknown .ensures) ∙ ap found (known .i .given .1) in
+    let place = found-at _ _ (sym (known .before .before .first-unknown .ensures) ∙ known .i .given .1) in
     ends-refused (unknown-at _ _ _ _ (c .before .before .before .before .before .before .before .before .if1 .left) place)
 
 same-length : tie.Need-same-length
@@ -61,7 +61,7 @@ returns-3 : tie.Need-returns-3
 unfolding piecesOf
 returns-3 c =
     let told = c .before .before .before .before in
-    let known = sym (told .before .before .first-unknown .ensures) ∙ ap found (told .enum-told .given .1) in
+    let known = found-nothing _ (sym (told .before .before .first-unknown .ensures) ∙ told .enum-told .given .1) in
     ends-made (made-by _ _ _ (c .before .before .before .before .before .before .before .before .before .before .before .if1 .left) known)
     (rw (front-is (c .before .before .before .before .before .before .before .before .before .collapse .ensures)) at (c .before .before .consume .ensures))
 
