@@ -6,7 +6,7 @@ use mathlib.Core.List.{List, [], _∷_, _++_}
 use mathlib.Core.Path.{_≡_, refl}
 use native.Mathlib.Omega.{arith}
 use lib.Dec.{eqb}
-use lib.ListN.{length, length-append, length-replicate}
+use lib.ListN.{length, length-append}
 use borrow.Author.Tests.{ne-eqb}
 use Rattle.table.specs.Numbers.{blankCell}
 use Rattle.table.specs.Cells.{mostCell}
@@ -19,6 +19,7 @@ use Rattle.layout.specs.Pages.{count}
 use Rattle.layout.specs.Fitting.{WordFits, Fitting}
 use Rattle.layout.specs.Right.{IsCell}
 use Rattle.layout.specs.declared.Place.{Place}
+use Rattle.layout.proofs.Bytes.{length-cells-after}
 use Rattle.layout.proofs.Kept.{Kept, volume-keeps}
 use Rattle.layout.specs.declared.Sheet.{Sheet}
 
@@ -27,10 +28,6 @@ use Rattle.layout.specs.declared.Sheet.{Sheet}
 pub cells-after : {W : ℕ} (blanks : ℕ) {w : List ℕ} → WordFits W w → All IsCell (cellsAfter blanks w)
 unfolding cellsAfter
 cells-after blanks fits = all-append (all-replicate blanks blankCell (omega arith)) (all-weaker (λ c h. h .most) (fits .dotted))
-
-pub length-after : (blanks : ℕ) (w : List ℕ) → length (cellsAfter blanks w) ≡ blanks + length w
-unfolding cellsAfter
-length-after blanks w = simp (length-append, length-replicate)
 
 -- ---- Counting
 
@@ -63,7 +60,7 @@ module _ (sheet : Sheet) (p : Place) where
         cells = λ bytes words spots q blanks w fits h r.
             let cells = cells-after blanks fits in
             record {
-              written = rw (length-append, length-after blanks w) (omega arith);
+              written = rw (length-append, length-cells-after blanks w) (omega arith);
               lines = rw (count-append lineMark bytes (cellsAfter blanks w), no-mark-in-cells lineMark (omega arith) cells) (omega arith);
               pages = rw (count-append pageMark bytes (cellsAfter blanks w), no-mark-in-cells pageMark (omega arith) cells) (omega arith);
             };

@@ -1,7 +1,7 @@
 -- Sign by sign is word by word: what the items of the signs do to a place and write, from a word that is being gathered on, is what one sign does and
 -- writes, and then what the rest does. A word is placed as soon as it has W cells, since its parts are cut off in fulls of W.
 use Prim.Native.Nat.{ℕ, zero, suc, _+_, _≤_, _<_}
-use mathlib.Core.Bool.{Bool, true, false, cond, _||_}
+use mathlib.Core.Bool.{Bool, true, false}
 use mathlib.Core.List.{List, [], _∷_, _++_, append-assoc, append-nil}
 use mathlib.Core.Option.{Option, none, some}
 use mathlib.Core.Path.{_≡_, refl, sym, _∙_, ap}
@@ -12,27 +12,17 @@ use lib.Dec.{ltb, eqb}
 use lib.ListN.{length, getD, take, drop, length-append, length-drop}
 use lib.Seq.{take-at, drop-at, drop-cons}
 use borrow.Author.Tests.{le-leb, lt-leb, lt-ltb, eqb-true, eqb-false}
-use Rattle.table.specs.Numbers.{blankCell, signLineEnd, signEmptyLine, signParagraph, signPageEnd}
-use Rattle.table.specs.Search.{isThere}
+use Rattle.table.specs.Numbers.{blankCell, signPageEnd}
 use Rattle.layout.specs.Numbers.{mostWidth}
 use Rattle.layout.specs.Words.{Item, word, lineEnd, emptyLine, paragraph, pageEnd, formatOf, closed, gathered, cutWithin, parts, cutItem, cut}
-use Rattle.layout.specs.Place.{afterWord, wordBytes, afterItem, itemBytes, afterItems, itemsBytes, afterPageEnd, pageEndBytes, ended}
-use Rattle.layout.specs.Gather.{Modest, afterFlush, flushBytes, afterFormat, formatBytes, stepped, waiting, stepBytes, afterRest, restBytes}
+use Rattle.layout.specs.Place.{afterWord, afterItem, moveBytes, cellsIn, itemBytes, afterItems, itemsBytes, ended}
+use Rattle.layout.specs.Signs.{endsWord}
+use Rattle.layout.specs.Gather.{Modest, afterFlush, flushBytes, afterFormat, formatBytes, wordBytes, stepped, waiting, stepBytes, afterRest, restBytes}
 use Rattle.layout.specs.declared.Place.{Place}
+use Rattle.layout.proofs.Formats.{format-no-word, nil-cells, blank-no-format}
+use Rattle.layout.proofs.Bytes.{stays-bytes}
 use Rattle.layout.proofs.Moves.{modest-more, modest-word, modest-line-end, modest-empty-line, modest-paragraph, modest-page-end}
 use Rattle.layout.specs.declared.Sheet.{Sheet}
-
--- a format sign is no word
-format-no-word : (g : ℕ) (cells : List ℕ) → formatOf g ≡ some (word cells) → ⊥
-unfolding formatOf
-format-no-word g cells e = go (eqb g signLineEnd) (eqb g signEmptyLine) (eqb g signParagraph) (eqb g signPageEnd) e
-  where
-    go : (a b c d : Bool) → cond a (some lineEnd) (cond b (some emptyLine) (cond c (some paragraph) (cond d (some pageEnd) none))) ≡ some (word cells) → ⊥
-    go true b c d e = let z : _≡_ {A = ℕ} 0 1 = cc in omega arith
-    go false true c d e = let z : _≡_ {A = ℕ} 0 1 = cc in omega arith
-    go false false true d e = let z : _≡_ {A = ℕ} 0 1 = cc in omega arith
-    go false false false true e = let z : _≡_ {A = ℕ} 0 1 = cc in omega arith
-    go false false false false e = let z : _≡_ {A = ℕ} 0 1 = cc in omega arith
 
 module _ (W : ℕ) (wide : 1 ≤ W) where
   -- ---- Cutting
@@ -135,8 +125,8 @@ module _ (sheet : Sheet) (wide : 1 ≤ sheet .width) where
   after-closed p (c ∷ cells) = rw (lt-ltb 0 (length (c ∷ cells)) (omega arith))
 
   bytes-closed : (p : Place) (cells : List ℕ) → itemsBytes sheet p (closed cells) ≡ flushBytes sheet p cells
-  unfolding itemsBytes itemBytes closed flushBytes
-  bytes-closed p [] = refl
+  unfolding itemsBytes afterItem cellsIn closed afterFlush
+  bytes-closed p [] = sym (stays-bytes p)
   bytes-closed p (c ∷ cells) = rw (lt-ltb 0 (length (c ∷ cells)) (omega arith)) (append-nil (wordBytes sheet p (c ∷ cells)))
 
   -- ---- What is left to do, from a place on
@@ -177,19 +167,11 @@ module _ (sheet : Sheet) (wide : 1 ≤ sheet .width) where
   -- W cells that wait are placed as a word
   runs-full : (p : Place) (cells signs : List ℕ) (n : ℕ) → length cells ≡ n → n ≡ sheet .width
       → Runs p (ended (cut (sheet .width) (gathered cells signs))) (wordBytes sheet p cells) (afterWord sheet p n) (ended (cut (sheet .width) (gathered [] signs)))
-  unfolding ended afterItems afterItem itemsBytes itemBytes
+  unfolding ended afterItems afterItem itemsBytes cellsIn
   runs-full p cells signs n e f =
       let c : cut (sheet .width) (gathered cells signs) ≡ word cells ∷ cut (sheet .width) (gathered [] signs) =
       ap (λ (r : List ℕ). cut (sheet .width) (gathered r signs)) (sym (append-nil cells)) ∙ gathered-full (sheet .width) wide cells [] signs (e ∙ f) in
       rw (c, ← e) (record { place = refl; written = refl })
-
-  after-format : (p : Place) (g : ℕ) (f : Item) → formatOf g ≡ some f → afterFormat sheet p g ≡ afterItem sheet p f
-  unfolding afterFormat
-  after-format p g f y = rw (y, afterFormat)
-
-  bytes-format : (p : Place) (g : ℕ) (f : Item) → formatOf g ≡ some f → formatBytes sheet p g ≡ itemBytes sheet p f
-  unfolding formatBytes
-  bytes-format p g f y = rw (y, formatBytes)
 
   -- a format sign after the cells that wait
   runs-format : (p : Place) (cells : List ℕ) (g : ℕ) (f : Item) (signs : List ℕ) → length cells ≤ sheet .width → formatOf g ≡ some f
@@ -203,13 +185,22 @@ module _ (sheet : Sheet) (wide : 1 ≤ sheet .width) where
       let q : Place = afterFlush sheet p (length cells) in
       let c : cut (sheet .width) (f ∷ gathered [] signs) ≡ f ∷ cut (sheet .width) (gathered [] signs) =
       ap (λ (r : List Item). r ++ cut (sheet .width) (gathered [] signs)) (format-whole g f y) in
+      let a : afterFormat sheet q g ≡ afterItem sheet q f = unfold afterFormat in rw (y, afterFormat) in
       record {
-        place = r .place ∙ rw (c, after-format q g f y);
+        place = r .place ∙ rw (c, a);
         written =
             r .written
-            ∙ rw (c, after-format q g f y, bytes-format q g f y)
-            (sym (append-assoc (flushBytes sheet p cells) (itemBytes sheet q f) (itemsBytes sheet (afterItem sheet q f) (cut (sheet .width) (gathered [] signs) ++ pageEnd ∷ []))));
+            ∙ rw (c, a, nil-cells g f y)
+            (sym (append-assoc (flushBytes sheet p cells) (moveBytes q (afterItem sheet q f) []) (itemsBytes sheet (afterItem sheet q f) (cut (sheet .width) (gathered [] signs) ++ pageEnd ∷ []))));
       }
+
+  -- the blank after the cells that wait: it moves nothing
+  runs-blank : (p : Place) (cells : List ℕ) (g : ℕ) (items : List Item) → length cells ≤ sheet .width → formatOf g ≡ none
+      → Runs p (ended (cut (sheet .width) (closed cells ++ items))) (flushBytes sheet p cells ++ formatBytes sheet (afterFlush sheet p (length cells)) g)
+      (afterFormat sheet (afterFlush sheet p (length cells)) g) (ended (cut (sheet .width) items))
+  unfolding afterFormat
+  runs-blank p cells g items h y =
+      rw (y, afterFormat, stays-bytes (afterFlush sheet p (length cells)), append-nil) (runs-closed p cells items h)
 
   -- ---- One sign
 
@@ -219,11 +210,11 @@ module _ (sheet : Sheet) (wide : 1 ≤ sheet .width) where
       (ended (cut (sheet .width) (gathered (waiting sheet cells g) signs)))
 
   runs-step : (p : Place) (cells : List ℕ) (g : ℕ) (signs : List ℕ) → length cells < sheet .width → Step p cells g signs
-  unfolding gathered stepped stepBytes waiting
+  unfolding gathered stepped stepBytes waiting endsWord
   runs-step p cells g signs h = go (eqb g blankCell) (formatOf g) (eqb (length cells + 1) (sheet .width)) refl refl refl
     where
       go : (b : Bool) (f : Option Item) (full : Bool) → eqb g blankCell ≡ b → formatOf g ≡ f → eqb (length cells + 1) (sheet .width) ≡ full → Step p cells g signs
-      go true f full x y z = rw (x, gathered) (runs-closed p cells (gathered [] signs) (omega arith))
+      go true f full x y z = rw (x, gathered) (runs-blank p cells g (gathered [] signs) (omega arith) (blank-no-format g x))
       go false none true x y z =
           rw (x, gathered, y, z) (runs-full p (cells ++ g ∷ []) signs (length cells + 1) (length-append cells (g ∷ [])) (eqb-true (length cells + 1) (sheet .width) z))
       go false none false x y z = rw (x, gathered, y, z) (record { place = refl; written = refl })
@@ -233,28 +224,26 @@ module _ (sheet : Sheet) (wide : 1 ≤ sheet .width) where
 
   pub waiting-length : (p : Place) (cells : List ℕ) (g : ℕ) → length (waiting sheet cells g) ≡ stepped sheet p (length cells) g .cells
   unfolding waiting stepped
-  waiting-length p cells g = go (eqb g blankCell) (isThere (formatOf g)) (eqb (length cells + 1) (sheet .width)) refl refl refl
+  waiting-length p cells g = go (endsWord g) (eqb (length cells + 1) (sheet .width)) refl refl
     where
-      go : (b f full : Bool) → eqb g blankCell ≡ b → isThere (formatOf g) ≡ f → eqb (length cells + 1) (sheet .width) ≡ full
+      go : (b full : Bool) → endsWord g ≡ b → eqb (length cells + 1) (sheet .width) ≡ full
           → length (waiting sheet cells g) ≡ stepped sheet p (length cells) g .cells
-      go true f full x y z = rw x
-      go false true full x y z = rw (x, y)
-      go false false true x y z = rw (x, y, z)
-      go false false false x y z = rw (x, y, z) (length-append cells (g ∷ []))
+      go true full x z = rw x
+      go false true x z = rw (x, z)
+      go false false x z = rw (x, z) (length-append cells (g ∷ []))
 
   pub waiting-below : (cells : List ℕ) (g : ℕ) → length cells < sheet .width → length (waiting sheet cells g) < sheet .width
   unfolding waiting
-  waiting-below cells g h = go (eqb g blankCell) (isThere (formatOf g)) (eqb (length cells + 1) (sheet .width)) refl refl refl
+  waiting-below cells g h = go (endsWord g) (eqb (length cells + 1) (sheet .width)) refl refl
     where
-      go : (b f full : Bool) → eqb g blankCell ≡ b → isThere (formatOf g) ≡ f → eqb (length cells + 1) (sheet .width) ≡ full → length (waiting sheet cells g) < sheet .width
-      go true f full x y z = rw x wide
-      go false true full x y z = rw (x, y) wide
-      go false false true x y z = rw (x, y, z) wide
-      go false false false x y z =
+      go : (b full : Bool) → endsWord g ≡ b → eqb (length cells + 1) (sheet .width) ≡ full → length (waiting sheet cells g) < sheet .width
+      go true full x z = rw x wide
+      go false true x z = rw (x, z) wide
+      go false false x z =
           let l = length-append cells (g ∷ []) in
           let d = eqb-false (length cells + 1) (sheet .width) z in
           let n : (length cells + 1 ≡ sheet .width → ⊥) = d in
-          rw (x, y, z) (omega arith)
+          rw (x, z) (omega arith)
 
   pub step-after : (p : Place) (cells : List ℕ) (g : ℕ) (signs : List ℕ) → length cells < sheet .width
       → afterRest sheet p cells (g ∷ signs) ≡ afterRest sheet (stepped sheet p (length cells) g .place) (waiting sheet cells g) signs
@@ -266,17 +255,22 @@ module _ (sheet : Sheet) (wide : 1 ≤ sheet .width) where
   unfolding restBytes
   step-bytes p cells g signs h = runs-step p cells g signs h .written
 
-  pub end-after : (p : Place) (cells : List ℕ) → length cells ≤ sheet .width → afterRest sheet p cells [] ≡ afterPageEnd sheet (afterFlush sheet p (length cells))
-  unfolding afterRest gathered ended cut afterItems afterItem
-  end-after p cells h = rw (cut-closed (sheet .width) wide cells h) (after-append p (closed cells) (pageEnd ∷ []) ∙ ap (λ (q : Place). afterPageEnd sheet q) (after-closed p cells))
+  -- the end of the text is as 73
+  pub end-after : (p : Place) (cells : List ℕ) → length cells ≤ sheet .width
+      → afterRest sheet p cells [] ≡ afterFormat sheet (afterFlush sheet p (length cells)) signPageEnd
+  unfolding afterRest gathered ended cut afterItems afterFormat formatOf
+  end-after p cells h =
+      rw (cut-closed (sheet .width) wide cells h)
+      (after-append p (closed cells) (pageEnd ∷ []) ∙ ap (λ (q : Place). afterItem sheet q pageEnd) (after-closed p cells))
 
   pub end-bytes : (p : Place) (cells : List ℕ) → length cells ≤ sheet .width
-      → restBytes sheet p cells [] ≡ flushBytes sheet p cells ++ pageEndBytes sheet (afterFlush sheet p (length cells))
-  unfolding restBytes gathered ended itemsBytes itemBytes
+      → restBytes sheet p cells [] ≡ flushBytes sheet p cells ++ formatBytes sheet (afterFlush sheet p (length cells)) signPageEnd
+  unfolding restBytes gathered ended itemsBytes cellsIn afterFormat formatOf
   end-bytes p cells h =
       rw (cut-closed (sheet .width) wide cells h)
       (bytes-append p (closed cells) (pageEnd ∷ [])
-      ∙ rw (bytes-closed p cells, after-closed p cells) (ap (λ (r : List ℕ). flushBytes sheet p cells ++ r) (append-nil (pageEndBytes sheet (afterFlush sheet p (length cells))))))
+      ∙ rw (bytes-closed p cells, after-closed p cells)
+      (ap (λ (r : List ℕ). flushBytes sheet p cells ++ r) (append-nil (itemBytes sheet (afterFlush sheet p (length cells)) pageEnd))))
 
 -- ---- The numbers of the place stay small
 
@@ -303,26 +297,12 @@ module _ (sheet : Sheet) where
   -- a sign adds at most 70 to each number, where no more cells wait than a line holds
   pub modest-step : (m n g : ℕ) (p : Place) → n ≤ mostWidth → Modest m p → Modest (m + 70) (stepped sheet p n g .place)
   unfolding stepped
-  modest-step m n g p h d = go (eqb g blankCell) (isThere (formatOf g)) (eqb (n + 1) (sheet .width)) refl refl refl
+  modest-step m n g p h d = go (endsWord g) (eqb (n + 1) (sheet .width)) refl refl
     where
-      go : (b f full : Bool) → eqb g blankCell ≡ b → isThere (formatOf g) ≡ f → eqb (n + 1) (sheet .width) ≡ full → Modest (m + 70) (stepped sheet p n g .place)
-      go true f full x y z = rw x (modest-more (omega arith) (modest-flush m n p d))
-      go false true full x y z = rw (x, y) (modest-more (omega arith) (modest-format (m + 4 + n) g (afterFlush sheet p n) (modest-flush m n p d)))
-      go false false true x y z = rw (x, y, z) (modest-more (omega arith) (modest-word sheet m (n + 1) p d))
-      go false false false x y z = rw (x, y, z) (modest-more (omega arith) d)
-
--- the test for a format sign
-pub format-test : (g : ℕ) → isThere (formatOf g) ≡ (eqb g signLineEnd || eqb g signEmptyLine || eqb g signParagraph || eqb g signPageEnd)
-unfolding formatOf
-format-test g = go (eqb g signLineEnd) (eqb g signEmptyLine) (eqb g signParagraph) (eqb g signPageEnd)
-  where
-    go : (a b c d : Bool)
-        → isThere {A = Item} (cond a (some lineEnd) (cond b (some emptyLine) (cond c (some paragraph) (cond d (some pageEnd) none)))) ≡ (a || b || c || d)
-    go true b c d = refl
-    go false true c d = refl
-    go false false true d = refl
-    go false false false true = refl
-    go false false false false = refl
+      go : (b full : Bool) → endsWord g ≡ b → eqb (n + 1) (sheet .width) ≡ full → Modest (m + 70) (stepped sheet p n g .place)
+      go true full x z = rw x (modest-more (omega arith) (modest-format (m + 4 + n) g (afterFlush sheet p n) (modest-flush m n p d)))
+      go false true x z = rw (x, z) (modest-more (omega arith) (modest-word sheet m (n + 1) p d))
+      go false false x z = rw (x, z) (modest-more (omega arith) d)
 
 -- ---- A turn of a loop over the signs: what is left after it is what was left before
 

@@ -7,15 +7,17 @@ use native.Mathlib.Omega.{arith}
 use lib.ListN.{length, getD, take, drop, length-append, drop-of-length-le}
 use lib.Seq.{sets, length-sets, length-take-le}
 use Rattle.layout.specs.Words.{itemsOf, wordsOf}
-use Rattle.layout.specs.Place.{start, volume, afterPageEnd, pageEndBytes}
-use Rattle.layout.specs.Gather.{Modest, afterFlush, flushBytes, stepped, waiting, stepBytes, restBytes}
+use Rattle.table.specs.Numbers.{signPageEnd}
+use Rattle.layout.specs.Place.{start, volume}
+use Rattle.layout.specs.Gather.{Modest, afterFlush, flushBytes, afterFormat, formatBytes, stepped, waiting, stepBytes, restBytes}
 use Rattle.layout.specs.Writing.{Room, Moved, Signed}
 use Rattle.layout.specs.declared.Gathering.{Gathering}
 use Rattle.layout.specs.declared.Place.{Place}
 use Rattle.layout.proofs.Moves as Moves
 use Rattle.layout.proofs.Bytes as Bytes
 use Rattle.layout.proofs.Gather as Gather
-use Rattle.layout.proofs.Sets.{put-then}
+use Rattle.layout.proofs.Steps as Steps
+use Rattle.table.proofs.Wrote.{put-then}
 use Rattle.layout.specs.declared.Sheet.{Sheet}
 
 pub record Going (sheet : Sheet) (signs out₀ out word : List ℕ) (p : Place) (n i : ℕ) : Type 0 where
@@ -106,10 +108,10 @@ module _ {sheet : Sheet} {signs out₀ : List ℕ} (z : Sized sheet signs out₀
             there = omega arith;
             below = omega arith;
             buffer = l;
-            same = ap length (s .page) ∙ length-sets out (p .written) bytes ∙ v .same;
+            same = ap length (s .wrote .leaves) ∙ length-sets out (p .written) bytes ∙ v .same;
             modest = rw e (Moves.modest-more (omega arith) (Gather.modest-step sheet (70 * i) n g p (omega arith) (v .modest)));
             done = v .done ++ bytes;
-            page = put-then out₀ out out′ 0 (v .done) bytes (v .page) (s .page) (omega arith);
+            page = put-then out₀ out out′ 0 (v .done) bytes (v .page) (s .wrote .leaves) (omega arith);
             written = let x = length-append (v .done) bytes in rw e (omega arith);
             whole =
                 rw (e, s .waits)
@@ -120,66 +122,45 @@ module _ {sheet : Sheet} {signs out₀ : List ℕ} (z : Sized sheet signs out₀
     -- ---- The end
 
     module _ (none : length signs ≤ i) where
-      abbrev flushed : Place
-      flushed = afterFlush sheet p n
+      abbrev last : List ℕ
+      last = flushBytes sheet p cells ++ formatBytes sheet (afterFlush sheet p (length cells)) signPageEnd
 
-      flushed-same : afterFlush sheet p (length cells) ≡ flushed
-      flushed-same = ap (λ (k : ℕ). afterFlush sheet p k) size
-
-      rest : restBytes sheet p cells (drop i signs) ≡ flushBytes sheet p cells ++ pageEndBytes sheet flushed
+      rest : restBytes sheet p cells (drop i signs) ≡ last
       rest =
           let b = v .below in
           let s = size in
-          ap (λ (x : List ℕ). restBytes sheet p cells x) (drop-of-length-le signs {i = i} none)
-          ∙ Gather.end-bytes sheet (z .wide) p cells (omega arith)
-          ∙ ap (λ (q : Place). flushBytes sheet p cells ++ pageEndBytes sheet q) flushed-same
+          ap (λ (x : List ℕ). restBytes sheet p cells x) (drop-of-length-le signs {i = i} none) ∙ Gather.end-bytes sheet (z .wide) p cells (omega arith)
 
-      flushed-written : flushed .written ≡ p .written + length (flushBytes sheet p cells)
-      flushed-written = ap (λ (q : Place). q .written) (sym flushed-same) ∙ Bytes.written-flush sheet p cells
-
-      all-fits : length (v .done) + length (flushBytes sheet p cells) + length (pageEndBytes sheet flushed) ≤ length out₀
-      all-fits =
+      last-fits : p .written + length last ≤ length out
+      last-fits =
           let t = ap length rest in
-          let x = length-append (flushBytes sheet p cells) (pageEndBytes sheet flushed) in
           let y = ap length (v .whole) in
           let w = length-append (v .done) (restBytes sheet p cells (drop i signs)) in
           let r = z .room in
+          let a = v .written in
+          let b = v .same in
           omega arith
 
       pub flush-room : Room (2 ^ 32) out p (flushBytes sheet p cells)
       flush-room =
-          let f = all-fits in
+          let f = last-fits in
+          let n = length-append (flushBytes sheet p cells) (formatBytes sheet (afterFlush sheet p (length cells)) signPageEnd) in
           let m = z .most in
           let t = v .there in
-          let a = v .written in
-          let b = v .same in
           record { modest = Moves.modest-more (omega arith) (v .modest); room = omega arith }
 
-      pub page-end-room : {out′ : List ℕ} {q : Place} → Moved out p (flushBytes sheet p cells) out′ (afterFlush sheet p (length cells)) q
-          → Room (2 ^ 32) out′ q (pageEndBytes sheet q)
-      page-end-room {out′} {q} s =
-          let f = all-fits in
-          let w = flushed-written in
+      pub page-end-room : {out′ : List ℕ} {q : Place} → Moved out p cells out′ (afterFlush sheet p (length cells)) q
+          → Room (2 ^ 32) out′ q (formatBytes sheet q signPageEnd)
+      page-end-room s =
           let m = z .most in
           let t = v .there in
-          let a = v .written in
-          let b = v .same in
           let narrow = z .narrow in
           let k = v .below in
-          let l = ap length (s .page) ∙ length-sets out (p .written) (flushBytes sheet p cells) in
-          rw (s .place ∙ flushed-same)
-          (record { modest = Moves.modest-more (omega arith) (Gather.modest-flush sheet (70 * i) n p (v .modest)); room = omega arith })
+          let l = size in
+          Steps.format-room sheet p cells signPageEnd s (v .modest) (omega arith) last-fits
 
-      pub whole-written : {out′ out″ : List ℕ} {q r : Place} → Moved out p (flushBytes sheet p cells) out′ (afterFlush sheet p (length cells)) q
-          → Moved out′ q (pageEndBytes sheet q) out″ (afterPageEnd sheet q) r → out″ ≡ sets out₀ 0 (volume sheet (itemsOf (sheet .width) signs))
-      whole-written {out′} {out″} {q} {r} s e =
-          let w = flushed-written in
-          let a = v .written in
-          let x = length-append (v .done) (flushBytes sheet p cells) in
-          let h = s .place ∙ flushed-same in
-          let first : out′ ≡ sets out₀ 0 (v .done ++ flushBytes sheet p cells) = put-then out₀ out out′ 0 (v .done) (flushBytes sheet p cells) (v .page) (s .page) (omega arith) in
-          put-then out₀ out′ out″ 0 (v .done ++ flushBytes sheet p cells) (pageEndBytes sheet flushed) first
-          (e .page ∙ ap (λ (y : Place). sets out′ (y .written) (pageEndBytes sheet y)) h)
-          (omega arith)
-          ∙ ap (λ (y : List ℕ). sets out₀ 0 y)
-          (append-assoc (v .done) (flushBytes sheet p cells) (pageEndBytes sheet flushed) ∙ ap (λ (y : List ℕ). v .done ++ y) (sym rest) ∙ v .whole)
+      pub whole-written : {out′ out″ : List ℕ} {q r : Place} → Moved out p cells out′ (afterFlush sheet p (length cells)) q
+          → Moved out′ q [] out″ (afterFormat sheet q signPageEnd) r → out″ ≡ sets out₀ 0 (volume sheet (itemsOf (sheet .width) signs))
+      whole-written {out′} {out″} s e =
+          put-then out₀ out out″ 0 (v .done) last (v .page) (Steps.both-wrote sheet p cells signPageEnd s e .leaves) (let a = v .written in omega arith)
+          ∙ ap (λ (y : List ℕ). sets out₀ 0 y) (ap (λ (y : List ℕ). v .done ++ y) (sym rest) ∙ v .whole)

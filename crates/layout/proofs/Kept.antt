@@ -13,40 +13,12 @@ use borrow.Author.Tests.{ltb-true, ltb-false, leb-true, eqb-true, eqb-false}
 use Rattle.table.specs.Lists.{empty, _and_}
 use Rattle.layout.specs.Numbers.{gapBlanks, paragraphBlanks, lineMark, pageMark}
 use Rattle.layout.specs.Words.{Item, word, lineEnd, emptyLine, paragraph, pageEnd}
-use Rattle.layout.specs.Place.{
-  start,
-  holdsCell,
-  hasLine,
-  fillsPage,
-  afterLine,
-  lineBytes,
-  afterLineEnd,
-  lineEndBytes,
-  afterEmptyLine,
-  emptyLineBytes,
-  afterParagraph,
-  paragraphBytes,
-  afterPage,
-  afterPageEnd,
-  pageEndBytes,
-  openingBlanks,
-  joins,
-  afterCells,
-  cellsAfter,
-  afterWord,
-  wordBytes,
-  afterItem,
-  itemBytes,
-  afterItems,
-  itemsBytes,
-  ended,
-  volumeEnd,
-  volume,
-}
+use Rattle.layout.specs.Place.{start, holdsCell, hasLine, fillsPage, afterLine, afterLineEnd, afterEmptyLine, afterParagraph, afterPage, afterPageEnd, openingBlanks, joins, afterCells, cellsAfter, afterWord, afterItem, cellsIn, afterItems, itemsBytes, ended, volumeEnd, volume}
 use Rattle.layout.specs.Permitted.{Spot}
 use Rattle.layout.specs.Spots.{spot, spotAfter, spotsFrom}
 use Rattle.layout.specs.Fitting.{WordFits, Fitting, wordsIn}
 use Rattle.layout.specs.declared.Place.{Place}
+use Rattle.layout.proofs.Bytes.{endOfLine, bytes70, bytes71, bytes73, bytesOfWord, writes-70, writes-71, writes-72, writes-73, writes-word}
 use Rattle.layout.proofs.Moves.{line-is-fresh, line-end-is-fresh, page-end-lined, page-end-empty, held-or-empty}
 use Rattle.layout.specs.declared.Sheet.{Sheet}
 
@@ -82,9 +54,9 @@ opening-fits sheet p n h = go (p .opening) (leb (paragraphBlanks + n) (sheet .wi
 -- ---- The end of text is as 73
 
 bytes-to-the-end : (sheet : Sheet) (p : Place) (items : List Item)
-    → itemsBytes sheet p (items ++ pageEnd ∷ []) ≡ itemsBytes sheet p items ++ pageEndBytes sheet (afterItems sheet p items)
-unfolding itemsBytes itemBytes afterItems
-bytes-to-the-end sheet p [] = append-nil (pageEndBytes sheet p)
+    → itemsBytes sheet p (items ++ pageEnd ∷ []) ≡ itemsBytes sheet p items ++ bytes73 sheet (afterItems sheet p items)
+unfolding itemsBytes afterItem cellsIn afterItems
+bytes-to-the-end sheet p [] = rw append-nil (writes-73 sheet p)
 bytes-to-the-end sheet p (item ∷ items) = rw (append-assoc, bytes-to-the-end sheet (afterItem sheet p item) items)
 
 place-at-the-end : (sheet : Sheet) (p : Place) (items : List Item)
@@ -115,12 +87,12 @@ module _ (sheet : Sheet) (R : List ℕ → List (List ℕ) → List Spot → Pla
     holds : R bytes words spots p
 
   module _ (bytes : List ℕ) (words : List (List ℕ)) (spots : List Spot) (p : Place) (held : Held bytes words spots p) where
-    line-kept : Held (bytes ++ lineBytes sheet p) words spots (afterLine sheet p)
-    unfolding afterLine lineBytes fillsPage afterPage
+    line-kept : Held (bytes ++ endOfLine sheet p) words spots (afterLine sheet p)
+    unfolding afterLine fillsPage afterPage
     line-kept = go (eqb (p .line + 1) (sheet .length)) refl (kept .line bytes words spots p (held .room) (held .holds))
       where
         go : (b : Bool) → eqb (p .line + 1) (sheet .length) ≡ b → R (bytes ++ lineMark ∷ []) words spots (lined p)
-            → Held (bytes ++ lineBytes sheet p) words spots (afterLine sheet p)
+            → Held (bytes ++ endOfLine sheet p) words spots (afterLine sheet p)
         go true e r =
             let h = eqb-true (p .line + 1) (sheet .length) e in
             let r′ = kept .page (bytes ++ lineMark ∷ []) words spots (lined p) refl (omega arith) (omega arith) r in
@@ -130,47 +102,47 @@ module _ (sheet : Sheet) (R : List ℕ → List (List ℕ) → List Spot → Pla
             let h : p .line + 1 ≢ sheet .length = eqb-false (p .line + 1) (sheet .length) e in
             rw e (record { room = omega arith; holds = r })
 
-    line-end-kept : Held (bytes ++ lineEndBytes sheet p) words spots (afterLineEnd sheet p)
-    unfolding afterLineEnd lineEndBytes
+    line-end-kept : Held (bytes ++ bytes70 sheet p) words spots (afterLineEnd sheet p)
+    unfolding afterLineEnd
     line-end-kept = go (holdsCell p) refl
       where
-        go : (b : Bool) → holdsCell p ≡ b → Held (bytes ++ lineEndBytes sheet p) words spots (afterLineEnd sheet p)
+        go : (b : Bool) → holdsCell p ≡ b → Held (bytes ++ bytes70 sheet p) words spots (afterLineEnd sheet p)
         go true e = rw e line-kept
         go false e = rw (e, append-nil) held
 
   module _ (bytes : List ℕ) (words : List (List ℕ)) (spots : List Spot) (p : Place) (held : Held bytes words spots p) where
-    empty-line-kept : Held (bytes ++ emptyLineBytes sheet p) words spots (afterEmptyLine sheet p)
-    unfolding afterEmptyLine emptyLineBytes
+    empty-line-kept : Held (bytes ++ bytes71 sheet p) words spots (afterEmptyLine sheet p)
+    unfolding afterEmptyLine
     empty-line-kept = go (hasLine q) refl (line-end-kept bytes words spots p held)
       where
         q : Place
         q = afterLineEnd sheet p
 
-        go : (b : Bool) → hasLine q ≡ b → Held (bytes ++ lineEndBytes sheet p) words spots q
-            → Held (bytes ++ emptyLineBytes sheet p) words spots (afterEmptyLine sheet p)
-        go true e r = rw e (rw append-assoc at (line-kept (bytes ++ lineEndBytes sheet p) words spots q r))
+        go : (b : Bool) → hasLine q ≡ b → Held (bytes ++ bytes70 sheet p) words spots q
+            → Held (bytes ++ bytes71 sheet p) words spots (afterEmptyLine sheet p)
+        go true e r = rw e (rw append-assoc at (line-kept (bytes ++ bytes70 sheet p) words spots q r))
         go false e r = rw (e, append-nil) r
 
-    page-end-kept : Held (bytes ++ pageEndBytes sheet p) words spots (afterPageEnd sheet p)
-    unfolding afterPageEnd pageEndBytes afterPage hasLine
+    page-end-kept : Held (bytes ++ bytes73 sheet p) words spots (afterPageEnd sheet p)
+    unfolding afterPageEnd afterPage hasLine
     page-end-kept = go (ltb 0 (q .line)) refl (line-end-kept bytes words spots p held)
       where
         q : Place
         q = afterLineEnd sheet p
 
-        go : (b : Bool) → ltb 0 (q .line) ≡ b → Held (bytes ++ lineEndBytes sheet p) words spots q
-            → Held (bytes ++ pageEndBytes sheet p) words spots (afterPageEnd sheet p)
+        go : (b : Bool) → ltb 0 (q .line) ≡ b → Held (bytes ++ bytes70 sheet p) words spots q
+            → Held (bytes ++ bytes73 sheet p) words spots (afterPageEnd sheet p)
         go true e r =
             let h = ltb-true 0 (q .line) e in
-            let r′ = kept .page (bytes ++ lineEndBytes sheet p) words spots q (line-end-is-fresh sheet p (held .room) .empty) h (omega arith) (r .holds) in
+            let r′ = kept .page (bytes ++ bytes70 sheet p) words spots q (line-end-is-fresh sheet p (held .room) .empty) h (omega arith) (r .holds) in
             rw e (record { room = omega arith; holds = rw append-assoc at r′ })
         go false e r = rw (e, append-nil) r
 
-    paragraph-kept : Held (bytes ++ paragraphBytes sheet p) words spots (afterParagraph sheet p)
-    unfolding afterParagraph paragraphBytes
+    paragraph-kept : Held (bytes ++ bytes70 sheet p) words spots (afterParagraph sheet p)
+    unfolding afterParagraph
     paragraph-kept =
         let r = line-end-kept bytes words spots p held in
-        record { room = r .room; holds = kept .opens (bytes ++ lineEndBytes sheet p) words spots (afterLineEnd sheet p) (r .holds) }
+        record { room = r .room; holds = kept .opens (bytes ++ bytes70 sheet p) words spots (afterLineEnd sheet p) (r .holds) }
 
   module _ (bytes : List ℕ) (words : List (List ℕ)) (spots : List Spot) (p : Place) (held : Held bytes words spots p) (w : List ℕ)
       (fits : WordFits (sheet .width) w) where
@@ -187,19 +159,19 @@ module _ (sheet : Sheet) (R : List ℕ → List (List ℕ) → List Spot → Pla
 
   module _ (bytes : List ℕ) (words : List (List ℕ)) (spots : List Spot) (p : Place) (held : Held bytes words spots p) (w : List ℕ)
       (fits : WordFits (sheet .width) w) where
-    word-kept : let q = afterWord sheet p (length w) in Held (bytes ++ wordBytes sheet p w) (words ++ w ∷ []) (spots ++ spot q ∷ []) q
-    unfolding afterWord wordBytes holdsCell joins
+    word-kept : let q = afterWord sheet p (length w) in Held (bytes ++ bytesOfWord sheet p w) (words ++ w ∷ []) (spots ++ spot q ∷ []) q
+    unfolding afterWord holdsCell joins
     word-kept = go (ltb 0 (p .column)) (leb (p .column + gapBlanks + length w) (sheet .width)) refl refl
       where
         Goal : Type 0
-        Goal = let q = afterWord sheet p (length w) in Held (bytes ++ wordBytes sheet p w) (words ++ w ∷ []) (spots ++ spot q ∷ []) q
+        Goal = let q = afterWord sheet p (length w) in Held (bytes ++ bytesOfWord sheet p w) (words ++ w ∷ []) (spots ++ spot q ∷ []) q
 
         go : (b c : Bool) → ltb 0 (p .column) ≡ b → leb (p .column + gapBlanks + length w) (sheet .width) ≡ c → Goal
         go true true e f = rw (e, f) (cells-kept bytes words spots p held w fits gapBlanks (leb-true _ _ f))
         go true false e f =
             let r = line-kept bytes words spots p held in
             let c = line-is-fresh sheet p (held .room) .empty in
-            rw (e, f) (rw append-assoc at (opening-kept (bytes ++ lineBytes sheet p) words spots (afterLine sheet p) r w fits c))
+            rw (e, f) (rw append-assoc at (opening-kept (bytes ++ endOfLine sheet p) words spots (afterLine sheet p) r w fits c))
         go false c e f =
             let h = ltb-false 0 (p .column) e in
             rw e (opening-kept bytes words spots p held w fits (omega arith))
@@ -207,20 +179,20 @@ module _ (sheet : Sheet) (R : List ℕ → List (List ℕ) → List Spot → Pla
   items-held : (bytes : List ℕ) (words : List (List ℕ)) (spots : List Spot) (p : Place) (items : List Item) → Fitting (sheet .width) items
       → Held bytes words spots p
       → Held (bytes ++ itemsBytes sheet p items) (words ++ wordsIn items) (spots ++ spotsFrom sheet p items) (afterItems sheet p items)
-  unfolding afterItem itemBytes afterItems itemsBytes wordsIn spotAfter spotsFrom
+  unfolding afterItem cellsIn afterItems itemsBytes wordsIn spotAfter spotsFrom
   items-held bytes words spots p [] empty held = simp append-nil held
   items-held bytes words spots p (word w ∷ items) (fits and rest) held =
       let q = afterWord sheet p (length w) in
       let r = word-kept bytes words spots p held w fits in
-      simp append-assoc at (items-held (bytes ++ wordBytes sheet p w) (words ++ w ∷ []) (spots ++ spot q ∷ []) q items rest r)
+      rw (writes-word sheet p w) (simp append-assoc at (items-held (bytes ++ bytesOfWord sheet p w) (words ++ w ∷ []) (spots ++ spot q ∷ []) q items rest r))
   items-held bytes words spots p (lineEnd ∷ items) (fits and rest) held =
-      rw append-assoc at (items-held (bytes ++ lineEndBytes sheet p) words spots _ items rest (line-end-kept bytes words spots p held))
+      rw (writes-70 sheet p) (rw append-assoc at (items-held (bytes ++ bytes70 sheet p) words spots _ items rest (line-end-kept bytes words spots p held)))
   items-held bytes words spots p (emptyLine ∷ items) (fits and rest) held =
-      rw append-assoc at (items-held (bytes ++ emptyLineBytes sheet p) words spots _ items rest (empty-line-kept bytes words spots p held))
+      rw (writes-71 sheet p) (rw append-assoc at (items-held (bytes ++ bytes71 sheet p) words spots _ items rest (empty-line-kept bytes words spots p held)))
   items-held bytes words spots p (paragraph ∷ items) (fits and rest) held =
-      rw append-assoc at (items-held (bytes ++ paragraphBytes sheet p) words spots _ items rest (paragraph-kept bytes words spots p held))
+      rw (writes-72 sheet p) (rw append-assoc at (items-held (bytes ++ bytes70 sheet p) words spots _ items rest (paragraph-kept bytes words spots p held)))
   items-held bytes words spots p (pageEnd ∷ items) (fits and rest) held =
-      rw append-assoc at (items-held (bytes ++ pageEndBytes sheet p) words spots _ items rest (page-end-kept bytes words spots p held))
+      rw (writes-73 sheet p) (rw append-assoc at (items-held (bytes ++ bytes73 sheet p) words spots _ items rest (page-end-kept bytes words spots p held)))
 
   module _ (items : List Item) (fits : Fitting (sheet .width) items) (room : 0 < sheet .length) (outset : R [] [] [] start) where
     at-the-end : Held (itemsBytes sheet start items) (wordsIn items) (spotsFrom sheet start items) (afterItems sheet start items)

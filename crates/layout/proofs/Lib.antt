@@ -1,4 +1,5 @@
 pub mod Moves
+pub mod Formats
 pub mod Permitted
 pub mod NoLater
 pub mod Lists
@@ -9,7 +10,6 @@ pub mod Words
 pub mod Signs
 pub mod Drawn
 pub mod Bytes
-pub mod Sets
 pub mod Gather
 pub mod Steps
 pub mod Going

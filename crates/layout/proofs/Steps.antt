@@ -1,19 +1,25 @@
--- What a sign does, by case: a blank, a format sign, the cell that fills the line, a cell that waits. The place with the cells that wait then, the bytes,
--- and those cells.
-use Prim.Native.Nat.{ℕ, _+_, _<_}
+-- What a sign does, by case: one that ends a word, the cell that fills the line, a cell that waits. The place with the cells that wait then, the bytes, and
+-- those cells.
+use Prim.Native.Nat.{ℕ, _+_, _^_, _≤_, _<_}
 use mathlib.Core.Bool.{true, false}
 use mathlib.Core.List.{List, [], _∷_, _++_}
-use mathlib.Core.Path.{_≡_}
+use mathlib.Core.Path.{_≡_, _∙_, ap}
 use native.Mathlib.Numerals.{add-one}
-use lib.ListN.{length, set, take}
-use lib.Seq.{take-suc-set}
+use native.Mathlib.Omega.{arith}
+use lib.ListN.{length, set, take, length-append}
+use lib.Seq.{sets, length-sets, take-suc-set}
 use borrow.Author.Tests.{eq-eqb, ne-eqb}
-use Rattle.table.specs.Search.{isThere}
-use Rattle.layout.specs.Words.{formatOf}
-use Rattle.layout.specs.Place.{afterWord, wordBytes}
-use Rattle.layout.specs.Gather.{afterFlush, flushBytes, afterFormat, formatBytes, stepped, waiting, stepBytes}
+use Rattle.table.specs.Wrote.{Wrote}
+use Rattle.table.proofs.Wrote.{put-then}
+use Rattle.layout.specs.Place.{afterWord}
+use Rattle.layout.specs.Gather.{Modest, afterFlush, flushBytes, afterFormat, formatBytes, wordBytes, stepped, waiting, stepBytes}
+use Rattle.layout.specs.Signs.{endsWord}
+use Rattle.layout.specs.Writing.{Room, Moved}
 use Rattle.layout.specs.declared.Place.{Place}
 use Rattle.layout.specs.declared.Sheet.{Sheet}
+use Rattle.layout.proofs.Moves as Moves
+use Rattle.layout.proofs.Bytes as Bytes
+use Rattle.layout.proofs.Gather as Gather
 
 pub record StepIs (sheet : Sheet) (p : Place) (cells : List ℕ) (n g : ℕ) (q : Place) (m : ℕ) (bytes cells′ : List ℕ) : Type 0 where
   pub moved : stepped sheet p n g ≡ record { place = q; cells = m }
@@ -21,30 +27,51 @@ pub record StepIs (sheet : Sheet) (p : Place) (cells : List ℕ) (n g : ℕ) (q 
   pub waits : waiting sheet cells g ≡ cells′
 
 module _ (sheet : Sheet) (p : Place) (cells : List ℕ) (n g : ℕ) (e : length cells ≡ n) where
-  pub step-blank : g ≡ 0 → StepIs sheet p cells n g (afterFlush sheet p n) 0 (flushBytes sheet p cells) []
-  unfolding stepped stepBytes waiting
-  step-blank x = let b = eq-eqb g 0 x in record { moved = rw b; bytes-are = rw b; waits = rw b }
-
-  pub step-format : (g ≡ 0 → ⊥) → isThere (formatOf g) ≡ true
+  pub step-ends : endsWord g ≡ true
       → StepIs sheet p cells n g (afterFormat sheet (afterFlush sheet p n) g) 0 (flushBytes sheet p cells ++ formatBytes sheet (afterFlush sheet p n) g) []
   unfolding stepped stepBytes waiting
-  step-format x f = let b = ne-eqb g 0 x in record { moved = rw (b, f); bytes-are = rw (b, f, e); waits = rw (b, f) }
+  step-ends x = record { moved = rw x; bytes-are = rw (x, e); waits = rw x }
 
-  pub step-full : (g ≡ 0 → ⊥) → isThere (formatOf g) ≡ false → n + 1 ≡ sheet .width
+  pub step-full : endsWord g ≡ false → n + 1 ≡ sheet .width
       → StepIs sheet p cells n g (afterWord sheet p (n + 1)) 0 (wordBytes sheet p (cells ++ g ∷ [])) []
   unfolding stepped stepBytes waiting
-  step-full x f h =
-      let b = ne-eqb g 0 x in
-      let w = eq-eqb (n + 1) (sheet .width) h in
-      record { moved = rw (b, f, w); bytes-are = rw (b, f, e, w); waits = rw (b, f, e, w) }
+  step-full x h = let w = eq-eqb (n + 1) (sheet .width) h in record { moved = rw (x, w); bytes-are = rw (x, e, w); waits = rw (x, e, w) }
 
-  pub step-waits : (g ≡ 0 → ⊥) → isThere (formatOf g) ≡ false → (n + 1 ≡ sheet .width → ⊥) → StepIs sheet p cells n g p (n + 1) [] (cells ++ g ∷ [])
+  pub step-waits : endsWord g ≡ false → (n + 1 ≡ sheet .width → ⊥) → StepIs sheet p cells n g p (n + 1) [] (cells ++ g ∷ [])
   unfolding stepped stepBytes waiting
-  step-waits x f h =
-      let b = ne-eqb g 0 x in
-      let w = ne-eqb (n + 1) (sheet .width) h in
-      record { moved = rw (b, f, w); bytes-are = rw (b, f, e, w); waits = rw (b, f, e, w) }
+  step-waits x h = let w = ne-eqb (n + 1) (sheet .width) h in record { moved = rw (x, w); bytes-are = rw (x, e, w); waits = rw (x, e, w) }
 
 -- a cell that is stored after those that wait
 pub one-waits-more : (word : List ℕ) (n g : ℕ) → n < length word → take (n + 1) (set word n g) ≡ take n word ++ g ∷ []
 one-waits-more word n g h = rw (add-one n) (take-suc-set word n g h)
+
+-- ---- A sign that ends a word, and the end of the text: the cells that wait are placed, and then the sign moves the place
+
+module _ (sheet : Sheet) (p : Place) (cells : List ℕ) (g : ℕ) {out out′ : List ℕ} {q : Place}
+    (first : Moved out p cells out′ (afterFlush sheet p (length cells)) q) where
+  abbrev flushed : Place
+  flushed = afterFlush sheet p (length cells)
+
+  flushed-written : flushed .written ≡ p .written + length (flushBytes sheet p cells)
+  flushed-written = Bytes.written-move cells (Bytes.goes-flush sheet p (length cells))
+
+  pub format-room : {m : ℕ} → Modest m p → m + 4 + length cells ≤ 2 ^ 32
+      → p .written + length (flushBytes sheet p cells ++ formatBytes sheet flushed g) ≤ length out → Room (2 ^ 32) out′ q (formatBytes sheet q g)
+  format-room {m} d h room =
+      let w = flushed-written in
+      let n = length-append (flushBytes sheet p cells) (formatBytes sheet flushed g) in
+      let l = ap length (first .wrote .leaves) ∙ length-sets out (p .written) (flushBytes sheet p cells) in
+      rw (first .place) (record { modest = Moves.modest-more h (Gather.modest-flush sheet m (length cells) p d); room = omega arith })
+
+  pub both-moved : {out″ : List ℕ} {r : Place} → Moved out′ q [] out″ (afterFormat sheet q g) r → r ≡ afterFormat sheet flushed g
+  both-moved second = second .place ∙ ap (λ (x : Place). afterFormat sheet x g) (first .place)
+
+  pub both-wrote : {out″ : List ℕ} {r : Place} → Moved out′ q [] out″ (afterFormat sheet q g) r
+      → Wrote out (p .written) (flushBytes sheet p cells ++ formatBytes sheet flushed g) out″
+  both-wrote {out″} second =
+      record {
+        leaves =
+            put-then out out′ out″ (p .written) (flushBytes sheet p cells) (formatBytes sheet flushed g) (first .wrote .leaves)
+            (second .wrote .leaves ∙ ap (λ (x : Place). sets out′ (x .written) (formatBytes sheet x g)) (first .place))
+            flushed-written;
+      }

@@ -21,7 +21,8 @@ use Rattle.layout.specs.Right.{IsCell, LineRight, PageRight}
 use Rattle.layout.specs.declared.Place.{Place}
 use Rattle.layout.proofs.Lists.{flatten-append}
 use Rattle.layout.proofs.Kept.{Kept, lined, opened, AtEnd, volume-ends, volume-keeps}
-use Rattle.layout.proofs.Counts.{cells-after, length-after, lines-are-64s, pages-are-65s}
+use Rattle.layout.proofs.Bytes.{length-cells-after}
+use Rattle.layout.proofs.Counts.{cells-after, lines-are-64s, pages-are-65s}
 use Rattle.layout.specs.declared.Sheet.{Sheet}
 
 -- ---- The stack of pages so far, and what a byte does to it: 65 ends the page, 64 the line, and any other goes on the line
@@ -136,14 +137,14 @@ module _ (sheet : Sheet) (bytes : List ℕ) (s : Stack) (p : Place) (st : Standi
         lines = st .lines;
         line =
             record {
-              width = rw (length-append, length-after blanks w) (omega arith);
+              width = rw (length-append, length-cells-after blanks w) (omega arith);
               cells = all-append (st .line .cells) (cells-after blanks fits);
               no-trailing-blank = λ front e. ends-in-word fits (s .line ++ replicate blanks blankCell) front (rw append-assoc e);
             };
         page-count = st .page-count;
         line-count = st .line-count;
         on-page = st .on-page;
-        on-line = rw (length-append, length-after blanks w) (omega arith);
+        on-line = rw (length-append, length-cells-after blanks w) (omega arith);
       }
 
   fed-standing : Standing sheet (bytes ++ lineMark ∷ []) (fed s) (lined p)

@@ -1,15 +1,14 @@
 -- 'Lines and pages', sign by sign: the word that is being gathered is placed as soon as it has W cells or a sign ends it. proofs/Gather.antt shows that this
 -- is the layout of the words and parts.
 use Prim.Native.Nat.{ℕ, _+_, _≤_}
-use mathlib.Core.Bool.{cond, _||_}
+use mathlib.Core.Bool.{cond}
 use mathlib.Core.List.{List, [], _∷_, _++_}
 use mathlib.Core.Option.{none, some}
 use lib.Dec.{ltb, eqb}
 use lib.ListN.{length}
-use Rattle.table.specs.Numbers.{blankCell}
-use Rattle.table.specs.Search.{isThere}
 use Rattle.layout.specs.Words.{formatOf, gathered, cut}
-use Rattle.layout.specs.Place.{afterWord, wordBytes, afterItem, itemBytes, afterItems, itemsBytes, ended}
+use Rattle.layout.specs.Place.{afterWord, moveBytes, afterItem, afterItems, itemsBytes, ended}
+use Rattle.layout.specs.Signs.{endsWord}
 use Rattle.layout.specs.declared.Gathering.{Gathering}
 use Rattle.layout.specs.declared.Place.{Place}
 use Rattle.layout.specs.declared.Sheet.{Sheet}
@@ -26,34 +25,36 @@ pub record Modest (m : ℕ) (p : Place) : Type 0 where
 unfoldable pub afterFlush : Sheet → Place → ℕ → Place
 afterFlush sheet p n = cond (ltb 0 n) (afterWord sheet p n) p
 
-unfoldable pub flushBytes : Sheet → Place → List ℕ → List ℕ
-flushBytes sheet p cells = cond (ltb 0 (length cells)) (wordBytes sheet p cells) []
+abbrev pub flushBytes : Sheet → Place → List ℕ → List ℕ
+flushBytes sheet p cells = moveBytes p (afterFlush sheet p (length cells)) cells
 
--- a format sign
+-- a format sign; the blank moves nothing
 unfoldable pub afterFormat : Sheet → Place → ℕ → Place
 afterFormat sheet p g = elim (formatOf g) [ none ↦ p | some format ↦ afterItem sheet p format ]
 
-unfoldable pub formatBytes : Sheet → Place → ℕ → List ℕ
-formatBytes sheet p g = elim (formatOf g) [ none ↦ [] | some format ↦ itemBytes sheet p format ]
+abbrev pub formatBytes : Sheet → Place → ℕ → List ℕ
+formatBytes sheet p g = moveBytes p (afterFormat sheet p g) []
+
+-- W cells are a word
+abbrev pub wordBytes : Sheet → Place → List ℕ → List ℕ
+wordBytes sheet p cells = moveBytes p (afterWord sheet p (length cells)) cells
 
 -- ---- One sign: a blank or a format sign places the cells that wait; a cell waits with them, until they are W
 
 unfoldable pub stepped : Sheet → Place → ℕ → ℕ → Gathering
 stepped sheet p n g =
-    cond (eqb g blankCell) (record { place = afterFlush sheet p n; cells = 0 })
-    (cond (isThere (formatOf g)) (record { place = afterFormat sheet (afterFlush sheet p n) g; cells = 0 })
-    (cond (eqb (n + 1) (sheet .width)) (record { place = afterWord sheet p (n + 1); cells = 0 }) (record { place = p; cells = n + 1 })))
+    cond (endsWord g) (record { place = afterFormat sheet (afterFlush sheet p n) g; cells = 0 })
+    (cond (eqb (n + 1) (sheet .width)) (record { place = afterWord sheet p (n + 1); cells = 0 }) (record { place = p; cells = n + 1 }))
 
 -- the cells that wait then
 unfoldable pub waiting : Sheet → List ℕ → ℕ → List ℕ
-waiting sheet cells g = cond (eqb g blankCell || isThere (formatOf g)) [] (cond (eqb (length cells + 1) (sheet .width)) [] (cells ++ g ∷ []))
+waiting sheet cells g = cond (endsWord g) [] (cond (eqb (length cells + 1) (sheet .width)) [] (cells ++ g ∷ []))
 
 -- what is written for the sign
 unfoldable pub stepBytes : Sheet → Place → List ℕ → ℕ → List ℕ
 stepBytes sheet p cells g =
-    cond (eqb g blankCell) (flushBytes sheet p cells)
-    (cond (isThere (formatOf g)) (flushBytes sheet p cells ++ formatBytes sheet (afterFlush sheet p (length cells)) g)
-    (cond (eqb (length cells + 1) (sheet .width)) (wordBytes sheet p (cells ++ g ∷ [])) []))
+    cond (endsWord g) (flushBytes sheet p cells ++ formatBytes sheet (afterFlush sheet p (length cells)) g)
+    (cond (eqb (length cells + 1) (sheet .width)) (wordBytes sheet p (cells ++ g ∷ [])) [])
 
 -- ---- All that is left: from a place, the cells that wait and the signs that follow, to the end of the text
 

@@ -1,5 +1,5 @@
--- 'Lines and pages': the place on the page, its moves, and the bytes that each move writes. W is the sheet's width, P its length.
-use Prim.Native.Nat.{ℕ, _+_}
+-- 'Lines and pages': the place on the page, its moves, and the bytes that a move writes. W is the sheet's width, P its length.
+use Prim.Native.Nat.{ℕ, _+_, _-_}
 use mathlib.Core.Bool.{Bool, true, false, cond, _&&_}
 use mathlib.Core.List.{List, [], _∷_, _++_}
 use lib.ListN.{length, replicate}
@@ -36,24 +36,15 @@ afterLine sheet p =
     (record { column = 0; line = 0; opening = p .opening; written = p .written + 2; lines = p .lines + 1; pages = p .pages + 1 })
     (record { column = 0; line = p .line + 1; opening = p .opening; written = p .written + 1; lines = p .lines + 1; pages = p .pages })
 
-unfoldable pub lineBytes : Sheet → Place → List ℕ
-lineBytes sheet p = cond (fillsPage sheet p) (lineMark ∷ pageMark ∷ []) (lineMark ∷ [])
-
 -- ---- 70: end the line if it holds a cell
 
 unfoldable pub afterLineEnd : Sheet → Place → Place
 afterLineEnd sheet p = cond (holdsCell p) (afterLine sheet p) p
 
-unfoldable pub lineEndBytes : Sheet → Place → List ℕ
-lineEndBytes sheet p = cond (holdsCell p) (lineBytes sheet p) []
-
 -- ---- 71: as 70, then an empty line unless the page has no line yet
 
 unfoldable pub afterEmptyLine : Sheet → Place → Place
 afterEmptyLine sheet p = let q = afterLineEnd sheet p in cond (hasLine q) (afterLine sheet q) q
-
-unfoldable pub emptyLineBytes : Sheet → Place → List ℕ
-emptyLineBytes sheet p = let q = afterLineEnd sheet p in lineEndBytes sheet p ++ cond (hasLine q) (lineBytes sheet q) []
 
 -- ---- 72: as 70; the next word opens a paragraph. This waits through other format signs
 
@@ -62,9 +53,6 @@ afterParagraph sheet p =
     let q = afterLineEnd sheet p in
     record { column = q .column; line = q .line; opening = true; written = q .written; lines = q .lines; pages = q .pages }
 
-unfoldable pub paragraphBytes : Sheet → Place → List ℕ
-paragraphBytes sheet p = lineEndBytes sheet p
-
 -- ---- 73: as 70, then end the page if it has a line
 
 unfoldable pub afterPage : Place → Place
@@ -72,9 +60,6 @@ afterPage p = record { column = 0; line = 0; opening = p .opening; written = p .
 
 unfoldable pub afterPageEnd : Sheet → Place → Place
 afterPageEnd sheet p = let q = afterLineEnd sheet p in cond (hasLine q) (afterPage q) q
-
-unfoldable pub pageEndBytes : Sheet → Place → List ℕ
-pageEndBytes sheet p = let q = afterLineEnd sheet p in lineEndBytes sheet p ++ cond (hasLine q) (pageMark ∷ []) []
 
 -- ---- A word of `n` cells, at most W
 
@@ -98,9 +83,6 @@ afterCells p blanks n =
       pages = p .pages;
     }
 
-unfoldable pub cellsAfter : ℕ → List ℕ → List ℕ
-cellsAfter blanks cells = replicate blanks blankCell ++ cells
-
 -- on a line with cells it joins if it fits, otherwise the line ends and it starts the next
 unfoldable pub afterWord : Sheet → Place → ℕ → Place
 afterWord sheet p n =
@@ -108,14 +90,6 @@ afterWord sheet p n =
     cond (holdsCell p)
     (cond (joins sheet p n) (afterCells p gapBlanks n) (afterCells q (openingBlanks sheet q n) n))
     (afterCells p (openingBlanks sheet p n) n)
-
-unfoldable pub wordBytes : Sheet → Place → List ℕ → List ℕ
-wordBytes sheet p cells =
-    let n = length cells in
-    let q = afterLine sheet p in
-    cond (holdsCell p)
-    (cond (joins sheet p n) (cellsAfter gapBlanks cells) (lineBytes sheet p ++ cellsAfter (openingBlanks sheet q n) cells))
-    (cellsAfter (openingBlanks sheet p n) cells)
 
 -- ---- Any item
 
@@ -126,12 +100,34 @@ afterItem sheet p emptyLine = afterEmptyLine sheet p
 afterItem sheet p paragraph = afterParagraph sheet p
 afterItem sheet p pageEnd = afterPageEnd sheet p
 
-unfoldable pub itemBytes : Sheet → Place → Item → List ℕ
-itemBytes sheet p (word cells) = wordBytes sheet p cells
-itemBytes sheet p lineEnd = lineEndBytes sheet p
-itemBytes sheet p emptyLine = emptyLineBytes sheet p
-itemBytes sheet p paragraph = paragraphBytes sheet p
-itemBytes sheet p pageEnd = pageEndBytes sheet p
+-- ---- What a move writes, from the place before it, the place after it and the word's cells
+
+-- a 64 for each line that ended, and a 65 for each page
+unfoldable pub marks : Place → Place → List ℕ
+marks p q = replicate (q .lines - p .lines) lineMark ++ replicate (q .pages - p .pages) pageMark
+
+-- the cells that stand on the line before the move's own: none where a line has ended
+unfoldable pub standing : Place → Place → ℕ
+standing p q = cond (eqb (q .lines) (p .lines)) (p .column) 0
+
+-- the word's cells, after some blanks
+unfoldable pub cellsAfter : ℕ → List ℕ → List ℕ
+cellsAfter blanks cells = replicate blanks blankCell ++ cells
+
+-- then the blanks and the cells
+unfoldable pub moveBytes : Place → Place → List ℕ → List ℕ
+moveBytes p q cells = marks p q ++ cellsAfter (q .column - standing p q - length cells) cells
+
+-- the cells of an item
+unfoldable pub cellsIn : Item → List ℕ
+cellsIn (word cells) = cells
+cellsIn lineEnd = []
+cellsIn emptyLine = []
+cellsIn paragraph = []
+cellsIn pageEnd = []
+
+abbrev pub itemBytes : Sheet → Place → Item → List ℕ
+itemBytes sheet p item = moveBytes p (afterItem sheet p item) (cellsIn item)
 
 -- ---- All items, from a place on
 

@@ -1,12 +1,13 @@
--- What a move that writes does: it hands the moved place back, and its bytes stand in the output from the place's own number on; everything else is as it was.
-use Prim.Native.Nat.{ℕ, _+_, _*_, _≤_, _<_}
+-- What the functions that write promise each other: moves that go forward, the moved place with its bytes in the output, and a sign with the cells that wait.
+use Prim.Native.Nat.{ℕ, _+_, _-_, _*_, _≤_, _<_}
 use mathlib.Core.List.{List}
 use mathlib.Core.Path.{_≡_}
 use lib.ListN.{length, getD, take}
-use lib.Seq.{sets}
 use Rattle.table.specs.Numbers.{entrySigns, mostText}
+use Rattle.table.specs.Wrote.{Wrote}
 use Rattle.translation.specs.Signs.{PrintedSign}
 use Rattle.layout.specs.Numbers.{mostWidth}
+use Rattle.layout.specs.Place.{standing, moveBytes}
 use Rattle.layout.specs.Emboss.{roomed}
 use Rattle.layout.specs.Gather.{Modest, stepped, waiting, stepBytes}
 use Rattle.layout.specs.declared.Answer.{Answer}
@@ -14,13 +15,17 @@ use Rattle.layout.specs.declared.Gathering.{Gathering}
 use Rattle.layout.specs.declared.Place.{Place}
 use Rattle.layout.specs.declared.Sheet.{Sheet}
 
--- `bytes` are written from `at` on
-pub record Put (before : List ℕ) (at : ℕ) (bytes after : List ℕ) : Type 0 where
-  pub page : after ≡ sets before at bytes
+-- a move from `p` to `q` that puts `n` cells on the line goes forward, and counts what it writes
+pub record Goes (p q : Place) (n : ℕ) : Type 0 where
+  pub lines : p .lines ≤ q .lines
+  pub pages : p .pages ≤ q .pages
+  pub column : standing p q + n ≤ q .column
+  pub written : q .written ≡ p .written + (q .lines - p .lines) + (q .pages - p .pages) + (q .column - standing p q)
 
-pub record Moved (before : List ℕ) (p : Place) (bytes after : List ℕ) (moved answer : Place) : Type 0 where
+-- the place is handed back, moved, and what the move writes stands in the output from the place's own number on
+pub record Moved (before : List ℕ) (p : Place) (cells after : List ℕ) (moved answer : Place) : Type 0 where
   pub place : answer ≡ moved
-  pub page : after ≡ sets before (p .written) bytes
+  pub wrote : Wrote before (p .written) (moveBytes p moved cells) after
 
 -- the place is modest, and the bytes have room from it on
 pub record Room (m : ℕ) (out : List ℕ) (p : Place) (bytes : List ℕ) : Type 0 where
@@ -30,7 +35,7 @@ pub record Room (m : ℕ) (out : List ℕ) (p : Place) (bytes : List ℕ) : Type
 -- one sign: the moved place with the cells that wait, the bytes written, and the cells that wait in front of the buffer
 pub record Signed (sheet : Sheet) (before : List ℕ) (p : Place) (word : List ℕ) (n g : ℕ) (after word′ : List ℕ) (answer : Gathering) : Type 0 where
   pub place : answer ≡ stepped sheet p n g
-  pub page : after ≡ sets before (p .written) (stepBytes sheet p (take n word) g)
+  pub wrote : Wrote before (p .written) (stepBytes sheet p (take n word) g) after
   pub waits : take (answer .cells) word′ ≡ waiting sheet (take n word) g
 
 -- signs that can be laid out: not too many, printed, within the sizes

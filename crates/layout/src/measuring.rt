@@ -4,20 +4,20 @@ ghost use mathlib.Core.Path.{_≡_};
 ghost use Prim.Native.Nat.{_*_, _<_, _≤_, _^_};
 ghost use lib.ListN.{length};
 ghost use Rattle.table.specs.Numbers.{entrySigns, mostText};
-ghost use Rattle.table.specs.Search.{isThere};
+ghost use Rattle.layout.specs.Signs.{endsWord};
 ghost use Rattle.layout.specs.Numbers.{mostWidth};
-ghost use Rattle.layout.specs.Words.{formatOf, itemsOf};
+ghost use Rattle.layout.specs.Words.{itemsOf};
 ghost use Rattle.layout.specs.Place.{volumeEnd};
 ghost use Rattle.layout.specs.Gather.{Modest, afterFlush, afterFormat, stepped};
 use crate::Gathering;
 use crate::Place;
 use crate::Sheet;
 
-// Whether a sign is one of the format signs.
-pub(crate) fn is_format(g: u8) -> bool
-    ensures { λ r. ⌜ r ≡ isThere (formatOf g) ⌝ }
+// Whether a sign ends a word: the blank, and the format signs.
+pub(crate) fn ends_word(g: u8) -> bool
+    ensures { λ r. ⌜ r ≡ endsWord g ⌝ }
 {
-    (g == 70) | (g == 71) | (g == 72) | (g == 73)
+    (g == 0) | ((g == 70) | (g == 71) | (g == 72) | (g == 73))
 }
 
 // The cells that wait are placed, if there are any.
@@ -28,7 +28,7 @@ pub(crate) fn flush(p: Place, sheet: Sheet, n: usize) -> Place
     if 0 < n { p.word(sheet, n) } else { p }
 }
 
-// A format sign.
+// A format sign; any other sign, and so the blank, moves nothing.
 pub(crate) fn format(p: Place, sheet: Sheet, g: u8) -> Place
     requires { ⌜ Modest (2 ^ 32) p ⌝ }
     ensures { λ r. ⌜ r ≡ afterFormat sheet p g ⌝ }
@@ -47,11 +47,7 @@ fn step(p: Place, n: usize, g: u8, sheet: Sheet) -> Gathering
     requires { ⌜ (Modest (2 ^ 31) p) × (n ≤ mostWidth) ⌝ }
     ensures { λ r. ⌜ r ≡ stepped sheet p n g ⌝ }
 {
-    if g == 0 {
-        let q = flush(p, sheet, n);
-        return Gathering { place: q, cells: 0 };
-    }
-    if is_format(g) {
+    if ends_word(g) {
         let q = format(flush(p, sheet, n), sheet, g);
         return Gathering { place: q, cells: 0 };
     }
@@ -79,5 +75,5 @@ pub(crate) fn measure(signs: &[u8], sheet: Sheet) -> Place
         n = s.cells;
         i += 1;
     }
-    flush(p, sheet, n).page_end(sheet)
+    format(flush(p, sheet, n), sheet, 73)
 }

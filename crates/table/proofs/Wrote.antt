@@ -5,7 +5,7 @@ use mathlib.Core.Path.{_≡_, sym, _∙_, ap}
 use native.Mathlib.Nat.{add-zero}
 use native.Mathlib.Numerals.{add-one}
 use native.Mathlib.Omega.{arith}
-use lib.ListN.{length, getD, set, take}
+use lib.ListN.{length, getD, set, take, replicate, length-replicate, replicate-append-replicate}
 use lib.Seq.{sets, take-suc, length-take-le}
 
 pub sets-append : (l : List ℕ) (i : ℕ) (xs ys : List ℕ) → sets (sets l i xs) (i + length xs) ys ≡ sets l i (xs ++ ys)
@@ -28,3 +28,10 @@ run-more l at cells j h =
     ap (λ (k : ℕ). set (sets l at (take j cells)) (at + k) (getD cells j 0)) (sym n)
     ∙ sets-append l at (take j cells) (getD cells j 0 ∷ [])
     ∙ ap (λ (r : List ℕ). sets l at r) (sym m)
+
+-- the same byte once more
+pub same-more : (l : List ℕ) (at j byte : ℕ) → set (sets l at (replicate j byte)) (at + j) byte ≡ sets l at (replicate (j + 1) byte)
+same-more l at j byte =
+    ap (λ (k : ℕ). set (sets l at (replicate j byte)) (at + k) byte) (sym (length-replicate j byte))
+    ∙ sets-append l at (replicate j byte) (byte ∷ [])
+    ∙ ap (λ (r : List ℕ). sets l at r) (replicate-append-replicate j 1 byte)

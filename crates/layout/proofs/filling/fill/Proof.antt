@@ -55,7 +55,7 @@ returns c =
     let b = le-leb (length bytes) (length (a .out .now)) room in
     record {
       answered = rw (b, roomed, n, l, g);
-      written = rw (b, roomed) (c .before .before .write .ensures .page ∙ ends (a .out .now) bytes room);
+      written = rw (b, roomed) (c .before .before .write .ensures .leaves ∙ ends (a .out .now) bytes room);
     }
 
 returns-2 : tie.Need-returns-2

@@ -7,8 +7,9 @@ use native.Mathlib.Omega.{arith}
 use borrow.Author.Needs.{needs}
 use lib.ListN.{length, getD, drop, drop-of-length-le}
 use Rattle.layout.specs.Words.{itemsOf, wordsOf}
-use Rattle.layout.specs.Place.{afterPageEnd, volumeEnd}
-use Rattle.layout.specs.Gather.{Modest, afterFlush, stepped, waiting, afterRest}
+use Rattle.table.specs.Numbers.{signPageEnd}
+use Rattle.layout.specs.Place.{volumeEnd}
+use Rattle.layout.specs.Gather.{afterFormat, Modest, afterFlush, stepped, waiting, afterRest}
 use Rattle.layout.specs.declared.Place.{Place}
 use Rattle.layout.proofs.Moves as Moves
 use Rattle.layout.proofs.Gather as Gather
@@ -80,8 +81,8 @@ flush-requires c κs =
     let i : 70 * c .before .loop .i ≤ 2 ^ 32 = omega arith in
     (Moves.modest-more i (v .2), omega arith)
 
-page-end-requires : tie.Need-page-end-requires Inv-loop μ-loop
-page-end-requires c κs =
+format-requires : tie.Need-format-requires Inv-loop μ-loop
+format-requires c κs =
     let a = c .before .before .before .before .before .args in
     let l = c .before .before .loop in
     let v = l .inv in
@@ -98,8 +99,8 @@ returns c =
     let cells : List ℕ = v .3 .0 in
     let size : length cells ≡ l .n = v .3 .1 in
     let all : drop (l .i) (a .signs .now) ≡ [] = drop-of-length-le (a .signs .now) {i = l .i} (omega arith) in
-    c .page-end .ensures
-    ∙ ap (λ (q : Place). afterPageEnd (a .sheet) q) (c .before .flush .ensures ∙ ap (λ (n : ℕ). afterFlush (a .sheet) (l .p) n) (sym size))
+    c .format .ensures
+    ∙ ap (λ (q : Place). afterFormat (a .sheet) q signPageEnd) (c .before .flush .ensures ∙ ap (λ (n : ℕ). afterFlush (a .sheet) (l .p) n) (sym size))
     ∙ sym (Gather.end-after (a .sheet) (pre .1) (l .p) cells (omega arith))
     ∙ ap (λ (r : List ℕ). afterRest (a .sheet) (l .p) cells r) (sym all)
     ∙ v .3 .2
@@ -118,5 +119,5 @@ measure-spec =
     loop-less
     loop-again
     flush-requires
-    page-end-requires
+    format-requires
     returns)

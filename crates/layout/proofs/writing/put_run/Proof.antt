@@ -4,7 +4,7 @@ use mathlib.Core.Path.{_≡_, refl, _∙_, ap}
 use native.Mathlib.Omega.{arith}
 use lib.ListN.{length, getD, set, take, length-set}
 use lib.Seq.{sets, take-all}
-use Rattle.layout.proofs.Sets.{run-more}
+use Rattle.table.proofs.Wrote.{run-more}
 use mathlib.Core.List.{List}
 use Rattle.layout.proofs.writing.put_run.Statement.{statement}
 use Rattle.layout.proofs.writing.put_run.Tie as tie
@@ -52,7 +52,7 @@ returns : tie.Need-returns Inv-loop μ-loop
 returns c =
     let a = c .before .before .args in
     let v = c .before .loop .inv in
-    record { page = v .2 ∙ ap (λ (r : List ℕ). sets (a .out .now) (a .at) r) (take-all (c .before .loop .j) (a .cells .now) (omega arith)) }
+    record { leaves = v .2 ∙ ap (λ (r : List ℕ). sets (a .out .now) (a .at) r) (take-all (c .before .loop .j) (a .cells .now) (omega arith)) }
 
 pub put-run-spec : {M : Type 1} → statement M
 put-run-spec =

@@ -81,8 +81,8 @@ put-flush-requires c κs =
     let l = length-take-le (c .before .before .before .loop .n) (c .before .before .before .loop .word) (omega arith) in
     (flush-room z v (c .before .before .loop-test .left), omega arith)
 
-put-page-end-requires : tie.Need-put-page-end-requires Inv-loop μ-loop
-put-page-end-requires c κs =
+put-format-requires : tie.Need-put-format-requires Inv-loop μ-loop
+put-format-requires c κs =
     let a = c .before .before .before .before .before .before .before .before .before .before .before .args in
     let pre = c .before .before .before .before .before .before .before .before .before .before .before .pre in
     let z : Sized (a .sheet) (a .signs .now) (a .out .now) = record { most = pre .0; wide = pre .1; narrow = pre .2; room = pre .3 } in
@@ -95,7 +95,7 @@ same-length c =
     let pre = c .before .before .before .before .before .before .before .before .before .before .before .before .before .before .pre in
     let z : Sized (a .sheet) (a .signs .now) (a .out .now) = record { most = pre .0; wide = pre .1; narrow = pre .2; room = pre .3 } in
     let v = c .before .before .before .before .before .before .before .before .before .before .loop .inv in
-    let w = whole-written z v (c .before .before .before .before .before .before .before .before .before .loop-test .left) (c .before .before .before .before .before .before .put-flush .ensures) (c .before .before .put-page-end .ensures) in
+    let w = whole-written z v (c .before .before .before .before .before .before .before .before .before .loop-test .left) (c .before .before .before .before .before .before .put-flush .ensures) (c .before .before .put-format .ensures) in
     ap length w ∙ length-sets (a .out .now) 0 (volume (a .sheet) (itemsOf (a .sheet .width) (a .signs .now)))
 
 returns : tie.Need-returns Inv-loop μ-loop
@@ -104,7 +104,7 @@ returns c =
     let pre = c .before .before .before .before .before .before .before .before .before .before .before .before .before .before .pre in
     let z : Sized (a .sheet) (a .signs .now) (a .out .now) = record { most = pre .0; wide = pre .1; narrow = pre .2; room = pre .3 } in
     let v = c .before .before .before .before .before .before .before .before .before .before .loop .inv in
-    record { page = whole-written z v (c .before .before .before .before .before .before .before .before .before .loop-test .left) (c .before .before .before .before .before .before .put-flush .ensures) (c .before .before .put-page-end .ensures) }
+    record { leaves = whole-written z v (c .before .before .before .before .before .before .before .before .before .loop-test .left) (c .before .before .before .before .before .before .put-flush .ensures) (c .before .before .put-format .ensures) }
 
 pub write-spec : {M : Type 1} → statement M
 write-spec =
@@ -123,6 +123,6 @@ write-spec =
     array-share-prefix-word
     slice-aggregate-put-flush
     put-flush-requires
-    put-page-end-requires
+    put-format-requires
     same-length
     returns)
