@@ -17,9 +17,9 @@
 ghost use Prim.Native.Nat.{_≤_};
 ghost use Rattle.io.specs.Counts.{Counts};
 use layout::Answer;
-use layout::Sheet;
 use libc::STDIN_FILENO;
 use libc::STDOUT_FILENO;
+use pages::Sheet;
 
 // The sizes of a case.
 struct Head {

@@ -1,6 +1,6 @@
 // Translates standard input by the table in the file `cases.tab` of the current folder, with W 8 and P 2, and prints the answer, the cells and the pages.
-use layout::Sheet;
 use libc::STDIN_FILENO;
+use pages::Sheet;
 
 fn main() {
     let mut image = [0u8; 32768];

@@ -1,7 +1,7 @@
 // The paper's run cases: what the whole call answers at its limits, for each refusal 1 to 8 with its place, and where two refusals hold at once.
 // Each case prints its answer in the form of `brailleout`. Some go on with the cells and pages; the others say whether the bytes lent are as they were.
-use layout::Sheet;
 use libc::STDOUT_FILENO;
+use pages::Sheet;
 
 fn sheet(width: usize, length: usize) -> Sheet {
     Sheet {

@@ -17,28 +17,29 @@ use Rattle.translation.specs.declared.Setting.{Setting}
 use Rattle.table.proofs.Sound.{accepted-sound}
 use Rattle.translation.proofs.Consumed.{consumed}
 use Rattle.translation.proofs.Signs.{signs-printed}
-use Rattle.layout.specs.Numbers.{leastWidth, mostWidth, leastPage, mostPage, lineMark, pageMark}
-use Rattle.layout.specs.Lists.{only}
-use Rattle.layout.specs.Words.{Item, itemsOf}
-use Rattle.layout.specs.Place.{volume}
-use Rattle.layout.specs.Pages.{pagesOf, bytesOfPages, count}
-use Rattle.layout.specs.Permitted.{Layout, Permitted}
-use Rattle.layout.specs.Spots.{layoutOf, withChoices, NoLater}
-use Rattle.layout.specs.Fitting.{Fitting, wordsIn}
-use Rattle.layout.specs.Right.{PageRight}
-use Rattle.layout.specs.Signs.{isDotted}
-use Rattle.layout.specs.Drawn.{volumeLines, Drawn}
-use Rattle.layout.specs.Emboss.{bytesOfSigns, bytesOf}
-use Rattle.layout.proofs.Permitted as Permitted-laws
-use Rattle.layout.proofs.NoLater as NoLater-laws
-use Rattle.layout.proofs.Counts.{lines-are-64s, pages-are-65s}
-use Rattle.layout.proofs.Words.{items-fit}
-use Rattle.layout.proofs.Volume as Volume-laws
-use Rattle.layout.proofs.Signs.{volume-has-the-signs}
-use Rattle.layout.proofs.Drawn.{spots-are-the-bytes, choices-are-the-bytes}
-use Rattle.layout.specs.declared.Sheet.{Sheet}
+use Rattle.pages.specs.Numbers.{leastWidth, mostWidth, leastLength, mostLength, lineMark, pageMark}
+use Rattle.pages.specs.Lists.{only}
+use Rattle.pages.specs.Words.{Item, itemsOf}
+use Rattle.pages.specs.Place.{volume}
+use Rattle.pages.specs.Pages.{pagesOf, bytesOfPages, count}
+use Rattle.pages.specs.Permitted.{Layout, Permitted}
+use Rattle.pages.specs.Spots.{layoutOf, withChoices, NoLater}
+use Rattle.pages.specs.Fitting.{Fitting, wordsIn}
+use Rattle.pages.specs.Right.{PageRight}
+use Rattle.pages.specs.Signs.{isDotted}
+use Rattle.pages.specs.Drawn.{volumeLines, Drawn}
+use Rattle.pages.specs.Fill.{bytesOf as bytesOfSigns}
+use Rattle.layout.specs.Emboss.{bytesOf}
+use Rattle.pages.proofs.Permitted as Permitted-laws
+use Rattle.pages.proofs.NoLater as NoLater-laws
+use Rattle.pages.proofs.Counts.{lines-are-64s, pages-are-65s}
+use Rattle.pages.proofs.Words.{items-fit}
+use Rattle.pages.proofs.Volume as Volume-laws
+use Rattle.pages.proofs.Signs.{volume-has-the-signs}
+use Rattle.pages.proofs.Drawn.{spots-are-the-bytes, choices-are-the-bytes}
+use Rattle.pages.specs.declared.Sheet.{Sheet}
 
-module _ (setting : Setting) (image text : List ℕ) (sheet : Sheet) (width : Between leastWidth mostWidth (sheet .width)) (page : Between leastPage mostPage (sheet .length))
+module _ (setting : Setting) (image text : List ℕ) (sheet : Sheet) (width : Between leastWidth mostWidth (sheet .width)) (page : Between leastLength mostLength (sheet .length))
     (accepted : verdictOf image ≡ Accepted) where
   -- the signs of the text, and its words and format signs
   abbrev signs : List ℕ

@@ -4,7 +4,7 @@ use mathlib.Core.List.{List}
 use mathlib.Core.Path.{_≡_, sym, _∙_}
 use Rattle.layout.specs.Promises.{Embossed, AnswerNumber, AnswerPlace, AnswerWritten, AnswerPieces, AnswerLines, AnswerPages}
 use Rattle.layout.specs.declared.Answer.{Answer}
-use Rattle.layout.specs.declared.Sheet.{Sheet}
+use Rattle.pages.specs.declared.Sheet.{Sheet}
 
 pub emboss-determined : {image text : List ℕ} {sheet : Sheet} {before : List ℕ} {a b : Answer} {x y : List ℕ} → Embossed image text sheet before a x
     → Embossed image text sheet before b y → (a ≡ b) × (x ≡ y)

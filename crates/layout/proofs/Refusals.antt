@@ -4,10 +4,9 @@
 use Prim.Native.Nat.{ℕ, _+_, _≤_, _<_}
 use mathlib.Core.Bool.{Bool, true, false}
 use mathlib.Core.List.{List}
-use mathlib.Core.Logic.{_↔_, inl, inr}
+use mathlib.Core.Logic.{_↔_}
 use mathlib.Core.Option.{Option, none, some}
-use mathlib.Core.Path.{_≡_, refl, sym, _∙_, ap, subst}
-use native.Mathlib.Decide.{decLt}
+use mathlib.Core.Path.{_≡_, refl, sym, ap, subst}
 use native.Mathlib.Omega.{arith}
 use lib.Dec.{leb}
 use lib.ListN.{length, drop}
@@ -15,7 +14,7 @@ use lib.Seq.{drop-append-seam}
 use borrow.Author.Tests.{leb-true, leb-false}
 use Rattle.table.specs.Numbers.{numberDone, mostText}
 use Rattle.table.specs.Answers.{refusalNumber, refusalPlace, FirstLine}
-use Rattle.table.specs.Refusals.{Between, tableLines, Line as TableLine}
+use Rattle.table.specs.Refusals.{tableLines, Line as TableLine}
 use Rattle.table.specs.Table.{tableOf}
 use Rattle.table.specs.Verdict.{verdictOf}
 use Rattle.table.specs.declared.Refusal.{Refusal}
@@ -25,7 +24,6 @@ use Rattle.table.specs.declared.Verdict.the-variants.{Accepted, Refused as NotA
 use Rattle.table.proofs.FirstLine.{NoneBefore, none-before-next, OneLine}
 use Rattle.table.proofs.FirstLine as First
 use Rattle.table.proofs.Refusals as TableLaws
-use Rattle.table.proofs.Tests.{Tells, decided-by, fails-law, tells-and, tells-within}
 use Rattle.translation.specs.Letters.{firstUnknown}
 use Rattle.translation.specs.Pieces.{piecesOf}
 use Rattle.translation.specs.Refusals.{FirstUnknownAt}
@@ -33,64 +31,12 @@ use Rattle.translation.specs.Translate.{Result, made, refused as notMade, trans
 use Rattle.translation.specs.declared.Setting.{Setting}
 use Rattle.translation.proofs.Outcomes.{too-long, unknown-at, made-by, table-refused, also-refused, goes-on}
 use Rattle.translation.proofs.Refusals.{unknown-exactly-when, none-unknown-exactly-when}
-use Rattle.layout.specs.Numbers.{leastWidth, mostWidth, leastPage, mostPage}
-use Rattle.layout.specs.Emboss.{number, place, written, Outcome, refused, done, bytesOf, roomed, laid, sizesRight, sizesVerdict, termsOf, embossFollowed}
-use Rattle.layout.specs.Refusals.{Outside, SizesWrong, Line, of-table, line-5, line-6, line-7, line-8}
-use Rattle.layout.specs.declared.Sheet.{Sheet}
-
--- ---- The sizes
-
-outside : {least most n : ℕ} → (Between least most n → ⊥) → Outside least most n
-outside {least} {most} {n} h = go (decLt n least) (decLt most n)
-  where
-    go : Dec (n < least) → Dec (most < n) → Outside least most n
-    go (yes l) d = inl l
-    go (no a) (yes l) = inr l
-    go (no a) (no b) = absurd (h (record { low = omega arith; high = omega arith }))
-
-not-outside : {least most n : ℕ} → Between least most n → Outside least most n → ⊥
-not-outside b (inl l) = omega arith
-not-outside b (inr l) = omega arith
-
-module _ (sheet : Sheet) where
-  sizes-tell : Tells (sizesRight sheet) (Between leastWidth mostWidth (sheet .width) × Between leastPage mostPage (sheet .length))
-  unfolding sizesRight
-  sizes-tell = tells-and (tells-within leastWidth mostWidth (sheet .width)) (tells-within leastPage mostPage (sheet .length))
-
-  sizes-wrong : sizesRight sheet ≡ false → SizesWrong sheet
-  sizes-wrong e = go (decided-by (tells-within leastWidth mostWidth (sheet .width)))
-    where
-      go : Dec (Between leastWidth mostWidth (sheet .width)) → SizesWrong sheet
-      go (yes b) = inr (outside (λ c. fails-law sizes-tell .0 e (b, c)))
-      go (no d) = inl (outside d)
-
-  pub sizes-accepted : sizesRight sheet ≡ true → sizesVerdict sheet ≡ Accepted
-  unfolding sizesVerdict
-  sizes-accepted e = rw (e, sizesVerdict)
-
-  sizes-refused : sizesRight sheet ≡ false → sizesVerdict sheet ≡ NotAccepted Size
-  unfolding sizesVerdict
-  sizes-refused e = rw (e, sizesVerdict)
-
-  -- sizes that are accepted are within their limits
-  pub sizes-of-accepted : sizesVerdict sheet ≡ Accepted → Between leastWidth mostWidth (sheet .width) × Between leastPage mostPage (sheet .length)
-  sizes-of-accepted v = go (sizesRight sheet) refl
-    where
-      go : (b : Bool) → sizesRight sheet ≡ b → Between leastWidth mostWidth (sheet .width) × Between leastPage mostPage (sheet .length)
-      go true e = sizes-tell .0 e
-      go false e = let n = sizes-refused e in let z : _≡_ {A = ℕ} 0 1 = cc in absurd (omega arith)
-
-  pub sizes-not-wrong : sizesRight sheet ≡ true → SizesWrong sheet → ⊥
-  sizes-not-wrong e (inl o) = not-outside (sizes-tell .0 e .0) o
-  sizes-not-wrong e (inr o) = not-outside (sizes-tell .0 e .1) o
-
-  -- sizes that aren't wrong are right
-  pub sizes-right : (SizesWrong sheet → ⊥) → Between leastWidth mostWidth (sheet .width) × Between leastPage mostPage (sheet .length)
-  sizes-right h = go (sizesRight sheet) refl
-    where
-      go : (b : Bool) → sizesRight sheet ≡ b → Between leastWidth mostWidth (sheet .width) × Between leastPage mostPage (sheet .length)
-      go true e = sizes-tell .0 e
-      go false e = absurd (h (sizes-wrong e))
+use Rattle.layout.specs.Emboss.{number, place, written, Outcome, refused, done, bytesOf, roomed, laid, termsOf, embossFollowed}
+use Rattle.layout.specs.Refusals.{Line, of-table, line-5, line-6, line-7, line-8}
+use Rattle.pages.specs.Fill.{sheetRight}
+use Rattle.pages.specs.Refusals.{SizesWrong}
+use Rattle.pages.proofs.Sizes.{sizes-wrong, sizes-accepted, sizes-refused, sizes-not-wrong}
+use Rattle.pages.specs.declared.Sheet.{Sheet}
 
 -- ---- The call, check by check
 
@@ -190,12 +136,12 @@ module _ (setting : Setting) (image text : List ℕ) (sheet : Sheet) (out : List
           (record { turn = tableLines + 2; line = line-6 (leb-false _ _ e); none-before = before })
 
   told-sizes : verdictOf image ≡ Accepted → Told (laid sheet out (translateOn (termsOf setting sheet) image text))
-  told-sizes v = go (sizesRight sheet) refl
+  told-sizes v = go (sheetRight sheet) refl
     where
       before : NoneBefore Holds (tableLines + 1)
       before = table-passed (TableLaws.accepted-exactly-when image .0 v)
 
-      go : (b : Bool) → sizesRight sheet ≡ b → Told (laid sheet out (translateOn (termsOf setting sheet) image text))
+      go : (b : Bool) → sheetRight sheet ≡ b → Told (laid sheet out (translateOn (termsOf setting sheet) image text))
       go true e =
           subst (λ (r : Result). Told (laid sheet out r)) (sym (goes-on (termsOf setting sheet) image text v (sizes-accepted sheet e)))
           (told-text (sizes-passed (sizes-not-wrong sheet e) before))

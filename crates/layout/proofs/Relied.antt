@@ -21,23 +21,24 @@ use Rattle.translation.specs.Pieces.{piecesOf}
 use Rattle.translation.proofs.Chosen.{first-in-order}
 use Rattle.translation.proofs.States.{states-start, states-move}
 use Rattle.translation.specs.Translate.{blankFollows}
-use Rattle.layout.specs.Numbers.{leastWidth, mostWidth, leastPage, mostPage}
-use Rattle.layout.specs.Lists.{only}
-use Rattle.layout.specs.Pages.{pagesOf, bytesOfPages}
-use Rattle.layout.specs.Spots.{layoutOf}
-use Rattle.layout.specs.Fitting.{wordsIn}
-use Rattle.layout.specs.Right.{PageRight}
-use Rattle.layout.specs.Signs.{isDotted}
-use Rattle.layout.specs.Drawn.{volumeLines, Drawn}
+use Rattle.pages.specs.Numbers.{leastWidth, mostWidth, leastLength, mostLength}
+use Rattle.pages.specs.Lists.{only}
+use Rattle.pages.specs.Pages.{pagesOf, bytesOfPages}
+use Rattle.pages.specs.Spots.{layoutOf}
+use Rattle.pages.specs.Fitting.{wordsIn}
+use Rattle.pages.specs.Right.{PageRight}
+use Rattle.pages.specs.Signs.{isDotted}
+use Rattle.pages.specs.Drawn.{volumeLines, Drawn}
 use Rattle.layout.specs.Emboss.{number, place, written, pieces, lines, pages, Outcome, done, bytesOf, embossFollowed, embossing}
 use Rattle.layout.specs.Refusals.{Line, of-table, line-5, line-8}
 use Rattle.layout.specs.Promises.{Embossed}
 use Rattle.layout.specs.Relied.{wrote, textPieces, textItems, Untouched, Bounded, Translates, LaysOut, Earliest}
 use Rattle.layout.specs.declared.Answer.{Answer}
 use Rattle.layout.specs.declared.Answer.the-variants.{Done, Refused}
+use Rattle.pages.proofs.Sizes.{sizes-right}
 use Rattle.layout.proofs.Refusals as Refusals-laws
 use Rattle.layout.proofs.Demands as Demands-laws
-use Rattle.layout.specs.declared.Sheet.{Sheet}
+use Rattle.pages.specs.declared.Sheet.{Sheet}
 
 -- every answer but the done one counts nothing
 untouched : (a : Answer) {before after : List ℕ} → 0 < number a → after ≡ before → Untouched before a after
@@ -111,8 +112,8 @@ module _ (image text : List ℕ) (sheet : Sheet) (before : List ℕ) (answer : A
     table-accepted =
         accepted-exactly-when image .1 (λ t n p x. no-line t n p (of-table x))
 
-    sizes : Between leastWidth mostWidth (sheet .width) × Between leastPage mostPage (sheet .length)
-    sizes = Refusals-laws.sizes-right sheet (λ x. no-line _ _ _ (line-5 x))
+    sizes : Between leastWidth mostWidth (sheet .width) × Between leastLength mostLength (sheet .length)
+    sizes = sizes-right sheet (λ x. no-line _ _ _ (line-5 x))
 
     room-for : length bytes ≤ length before
     room-for = go (decLt (length before) (length bytes))

@@ -10,12 +10,12 @@ use lib.ListN.{length, replicate}
 use Rattle.table.specs.Example.{image, table, ascii}
 use Rattle.translation.specs.Pieces.{piecesOf, signsOf}
 use Rattle.translation.specs.Translate.{blankFollows}
-use Rattle.layout.specs.Words.{Item, word, itemsOf}
-use Rattle.layout.specs.Permitted.{Permitted}
+use Rattle.pages.specs.Words.{Item, word, itemsOf}
+use Rattle.pages.specs.Permitted.{Permitted}
 use Rattle.layout.specs.Emboss.{Outcome, embossing, number, place, written, pieces, lines, pages}
-use Rattle.layout.specs.declared.Sheet.{Sheet}
-use Rattle.layout.specs.Computing.{computing}
-use Rattle.layout.proofs.Permitted.{choices-permitted}
+use Rattle.pages.specs.declared.Sheet.{Sheet}
+use Rattle.layout.specs.inside.Computing.{computing}
+use Rattle.pages.proofs.Permitted.{choices-permitted}
 
 -- ---- A row: the text, the output, and the counts of pieces, lines and pages
 

@@ -1,32 +1,36 @@
 -- The whole call, case by case: what the translation's answer says of its outcome.
-use Prim.Native.Nat.{ℕ, _≤_}
+use Prim.Native.Nat.{ℕ, _<_}
+use mathlib.Core.Bool.{Bool, true, false}
 use mathlib.Core.List.{List, _++_}
-use mathlib.Core.Path.{_≡_, refl, sym, _∙_, ap, subst, subst₂}
+use mathlib.Core.Path.{_≡_, refl, sym, _∙_, ap, subst₂}
 use native.Mathlib.Omega.{arith}
-use lib.ListN.{length, take, drop, length-append}
+use lib.Dec.{leb}
+use lib.ListN.{length, take, drop}
 use lib.Seq.{take-append-seam}
 use Rattle.table.specs.Table.{tableOf}
 use Rattle.table.specs.declared.Verdict.{Verdict}
+use Rattle.table.proofs.Sound.{accepted-sound}
 use Rattle.translation.specs.Collapse.{collapsed}
 use Rattle.translation.specs.Pieces.{Piece, piecesOf, signsOf}
 use Rattle.translation.specs.Translate.{blankFollows, Result, made, refused as notMade, translateOn, handed, translation}
 use Rattle.translation.specs.Promises.{Translated}
 use Rattle.translation.specs.declared.Translation.{Translation}
 use Rattle.translation.specs.declared.Translation.the-variants as t
-use Rattle.table.proofs.Sound.{accepted-sound}
-use Rattle.translation.proofs.Collapse.{collapsed-at-most}
-use Rattle.translation.proofs.Outcomes.{made-means}
-use Rattle.translation.proofs.Pieces.{pieces-at-most}
-use Rattle.translation.proofs.Signs.{signs-at-most, signs-printed}
-use Rattle.layout.specs.Words.{itemsOf}
-use Rattle.layout.specs.Place.{volume}
-use Rattle.layout.specs.Emboss.{Outcome, refused, roomed, bytesOfSigns, laid, sizesVerdict, termsOf, embossFollowed, embossing}
+use Rattle.translation.proofs.Outcomes.{Made, made-means}
+use Rattle.translation.proofs.Signs.{signs-printed}
+use Rattle.pages.specs.Words.{Item, itemsOf}
+use Rattle.pages.specs.Fitting.{Fitting}
+use Rattle.pages.specs.Fill.{sheetVerdict, bytesOf as bytesOfSigns, endOf, filling}
+use Rattle.pages.specs.Fill as Fill
+use Rattle.pages.specs.Promises.{Fills}
+use Rattle.pages.specs.declared.Filled.{Filled}
+use Rattle.pages.specs.declared.Sheet.{Sheet}
+use Rattle.pages.proofs.Counts.{lines-are-64s, pages-are-65s}
+use Rattle.pages.proofs.Sizes.{sizes-of-accepted}
+use Rattle.pages.proofs.Words.{items-fit}
+use Rattle.layout.specs.Emboss.{Outcome, refused, done, roomed, laid, termsOf, embossFollowed, embossing, withPieces}
 use Rattle.layout.specs.Promises.{Embossed}
-use Rattle.layout.specs.Writing.{Filled, Fillable}
-use Rattle.layout.specs.declared.Answer.{Answer}
-use Rattle.layout.specs.declared.Answer.the-variants.{Refused}
-use Rattle.layout.proofs.Refusals.{sizes-of-accepted}
-use Rattle.layout.specs.declared.Sheet.{Sheet}
+use Rattle.layout.specs.declared.Answer.the-variants.{Done, Refused}
 
 module _ (image text : List ℕ) (sheet : Sheet) (out lent : List ℕ) where
   abbrev result : Result
@@ -35,55 +39,56 @@ module _ (image text : List ℕ) (sheet : Sheet) (out lent : List ℕ) where
   -- what a translation's answer makes of the call
   abbrev pub Case : Translation → List ℕ → Type 0
   Case (t.Refused r) signs = Embossed image text sheet out (Refused r) out
-  Case (t.Done n k) signs =
-      (k ≤ length signs) × Fillable sheet (take k signs)
-      × ((a : Answer) (after : List ℕ) → Filled (volume sheet (itemsOf (sheet .width) (take k signs))) n out after a → Embossed image text sheet out a after)
+  Case (t.Done n k) signs = (a : Filled) (after : List ℕ) → Fills signs k sheet out a after → Embossed image text sheet out (withPieces n a) after
 
   embossed-as : {o : Outcome} → laid sheet out result ≡ o → Embossed image text sheet out (o .answer) (o .output)
   unfolding embossing embossFollowed
   embossed-as e = record { answers = sym (ap (λ (o : Outcome). o .answer) e); leaves = sym (ap (λ (o : Outcome). o .output) e) }
 
-  -- the signs of the pieces have no more than four for each character, and can be laid out
-  fillable : {ps : List Piece} → result ≡ made ps → Fillable sheet (signsOf ps)
-  unfolding piecesOf
-  fillable e =
-      let m = made-means (termsOf blankFollows sheet) image text e in
-      let sound = accepted-sound image (m .accepted) in
-      let size = sizes-of-accepted sheet (m .allowed) in
-      let w = size .0 in
-      let p = size .1 in
-      let four = signs-at-most (tableOf image) sound blankFollows (collapsed text) in
-      let one = pieces-at-most (tableOf image) blankFollows (collapsed text) in
-      let less = collapsed-at-most text in
-      let short = m .short in
-      subst (λ (l : List Piece). Fillable sheet (signsOf l)) (sym (m .pieces))
-      (record {
-        most = omega arith;
-        wide = omega arith;
-        narrow = omega arith;
-        page = omega arith;
-        printed = signs-printed (tableOf image) sound blankFollows (collapsed text);
-      })
+  -- what is handed back of pages, with the count of pieces, is what the call hands back
+  module _ (ps : List Piece) (e : result ≡ made ps) where
+    made-pieces : Made (termsOf blankFollows sheet) image text ps
+    made-pieces = made-means (termsOf blankFollows sheet) image text e
+
+    abbrev items : List Item
+    items = itemsOf (sheet .width) (signsOf ps)
+
+    fits : Fitting (sheet .width) items
+    unfolding piecesOf
+    fits =
+        let w = sizes-of-accepted sheet (made-pieces .allowed) .0 in
+        rw (made-pieces .pieces)
+        (items-fit (omega arith) (signsOf (piecesOf (tableOf image) blankFollows text)) (signs-printed (tableOf image) (accepted-sound image (made-pieces .accepted)) blankFollows (collapsed text)))
+
+    page : 0 < sheet .length
+    page = let p = sizes-of-accepted sheet (made-pieces .allowed) .1 in omega arith
+
+    abbrev filled : Fill.Outcome
+    filled = filling sheet (signsOf ps) out
+
+    same : laid sheet out (made ps) ≡ record { answer = withPieces (length ps) (filled .answer); output = filled .output }
+    unfolding laid roomed done refused filling Fill.roomed Fill.done Fill.refused bytesOfSigns endOf
+    same = go (leb (length (bytesOfSigns sheet (signsOf ps))) (length out)) refl
+      where
+        go : (b : Bool) → leb (length (bytesOfSigns sheet (signsOf ps))) (length out) ≡ b
+            → laid sheet out (made ps) ≡ record { answer = withPieces (length ps) (filled .answer); output = filled .output }
+        go true f = rw (made-pieces .allowed, filling, f, laid, roomed, Fill.roomed, lines-are-64s sheet items fits page, pages-are-65s sheet items fits page)
+        go false f = rw (made-pieces .allowed, filling, f, laid, roomed, Fill.roomed)
 
   by-result : (x : Result) → result ≡ x → Case (handed lent x .answer) (handed lent x .signs)
-  unfolding handed laid refused bytesOfSigns
+  unfolding handed laid refused
   by-result (notMade r) e = embossed-as {o = refused out r} (rw (e, laid))
   by-result (made ps) e =
-      let signs : List ℕ = signsOf ps ++ drop (length (signsOf ps)) lent in
-      let front : take (length (signsOf ps)) signs ≡ signsOf ps = take-append-seam (signsOf ps) (drop (length (signsOf ps)) lent) in
-      let n = length-append (signsOf ps) (drop (length (signsOf ps)) lent) in (
-        omega arith,
-        subst (Fillable sheet) (sym front) (fillable e),
-        λ a after x.
-            let same = ap (λ (s : List ℕ). roomed out (volume sheet (itemsOf (sheet .width) s)) (length ps)) front in
-            let embossed = embossed-as {o = roomed out (volume sheet (itemsOf (sheet .width) (signsOf ps))) (length ps)} (rw (e, laid)) in
-            record {
-              answers = x .answered ∙ ap (λ (o : Outcome). o .answer) same ∙ embossed .answers;
-              leaves = x .written ∙ ap (λ (o : Outcome). o .output) same ∙ embossed .leaves;
-            },
-      )
+      let front : take (length (signsOf ps)) (signsOf ps ++ drop (length (signsOf ps)) lent) ≡ signsOf ps = take-append-seam (signsOf ps) (drop (length (signsOf ps)) lent) in
+      λ a after x.
+      let y = ap (λ (s : List ℕ). filling sheet s out) front in
+      let z = embossed-as (ap (λ (r : Result). laid sheet out r) e ∙ same ps e) in
+      record {
+        answers = ap (withPieces (length ps)) (x .answers ∙ ap (λ (o : Fill.Outcome). o .answer) y) ∙ z .answers;
+        leaves = x .leaves ∙ ap (λ (o : Fill.Outcome). o .output) y ∙ z .leaves;
+      }
 
-  pub whole-translated : {also : Verdict} {signs : List ℕ} {answer told : Translation} → also ≡ sizesVerdict sheet → Translated image text also lent answer signs
+  pub whole-translated : {also : Verdict} {signs : List ℕ} {answer told : Translation} → also ≡ sheetVerdict sheet → Translated image text also lent answer signs
       → answer ≡ told → Case told signs
   unfolding translation
   whole-translated {also} {signs} {answer} {told} sizes x e =

@@ -1,29 +1,27 @@
 -- 'What comes back': the answer with its six values, and the whole call, from the image, the text, the sheet and the output as lent to the answer and the
 -- output afterwards.
 use Prim.Native.Nat.{ℕ}
-use mathlib.Core.Bool.{Bool, true, false, cond, _&&_}
+use mathlib.Core.Bool.{true, false}
 use mathlib.Core.List.{List, _++_}
 use lib.ListN.{length, drop}
 use lib.Dec.{leb}
 use Rattle.table.specs.Numbers.{numberDone, noPlace}
 use Rattle.table.specs.Answers.{refusalNumber, refusalPlace}
-use Rattle.table.specs.Search.{within}
 use Rattle.table.specs.Table.{Table}
 use Rattle.table.specs.declared.Refusal.{Refusal}
-use Rattle.table.specs.declared.Refusal.the-variants.{Size, Room}
-use Rattle.table.specs.declared.Verdict.{Verdict}
-use Rattle.table.specs.declared.Verdict.the-variants.{Accepted, Refused as NotAccepted}
-use Rattle.translation.specs.Pieces.{Piece, piecesOf, signsOf}
+use Rattle.table.specs.declared.Refusal.the-variants.{Room}
+use Rattle.translation.specs.Pieces.{piecesOf, signsOf}
 use Rattle.translation.specs.Translate.{Result, made, refused as notMade, translateOn, blankFollows}
 use Rattle.translation.specs.declared.Setting.{Setting}
 use Rattle.translation.specs.declared.Terms.{Terms}
-use Rattle.layout.specs.Numbers.{leastWidth, mostWidth, leastPage, mostPage, lineMark, pageMark}
-use Rattle.layout.specs.Words.{itemsOf}
-use Rattle.layout.specs.Place.{volume}
-use Rattle.layout.specs.Pages.{count}
+use Rattle.pages.specs.Numbers.{lineMark, pageMark}
+use Rattle.pages.specs.Pages.{count}
+use Rattle.pages.specs.Fill.{bytesOf as bytesOfSigns, sheetVerdict}
+use Rattle.pages.specs.declared.Filled.{Filled}
+use Rattle.pages.specs.declared.Filled.the-variants as Filled′
+use Rattle.pages.specs.declared.Sheet.{Sheet}
 use Rattle.layout.specs.declared.Answer.{Answer}
 use Rattle.layout.specs.declared.Answer.the-variants.{Done, Refused}
-use Rattle.layout.specs.declared.Sheet.{Sheet}
 
 -- ---- The six values: when refused, all but number and place are 0
 
@@ -68,10 +66,7 @@ done out bytes n =
 
 -- ---- The call
 
--- the bytes of signs, and of a text
-unfoldable pub bytesOfSigns : Sheet → List ℕ → List ℕ
-bytesOfSigns sheet signs = volume sheet (itemsOf (sheet .width) signs)
-
+-- the bytes of a text
 abbrev pub bytesOf : Table → Setting → List ℕ → Sheet → List ℕ
 bytesOf table setting text sheet = bytesOfSigns sheet (signsOf (piecesOf table setting text))
 
@@ -84,17 +79,9 @@ unfoldable pub laid : Sheet → List ℕ → Result → Outcome
 laid sheet out (made pieces) = roomed out (bytesOfSigns sheet (signsOf pieces)) (length pieces)
 laid sheet out (notMade r) = refused out r
 
--- W and P within their limits
-unfoldable pub sizesRight : Sheet → Bool
-sizesRight sheet = within leastWidth mostWidth (sheet .width) && within leastPage mostPage (sheet .length)
-
--- 5: W or P outside its limits
-unfoldable pub sizesVerdict : Sheet → Verdict
-sizesVerdict sheet = cond (sizesRight sheet) Accepted (NotAccepted Size)
-
--- what follows the end of the text is said by the caller; the sizes are checked after the table and before the text
+-- what follows the end of the text is said by the caller; 5, W or P outside its limits, is checked after the table and before the text
 abbrev pub termsOf : Setting → Sheet → Terms
-termsOf setting sheet = record { setting = setting; also = sizesVerdict sheet }
+termsOf setting sheet = record { setting = setting; also = sheetVerdict sheet }
 
 unfoldable pub embossFollowed : Setting → List ℕ → List ℕ → Sheet → List ℕ → Outcome
 embossFollowed setting image text sheet out = laid sheet out (translateOn (termsOf setting sheet) image text)
@@ -102,3 +89,9 @@ embossFollowed setting image text sheet out = laid sheet out (translateOn (terms
 -- the call of the base: past the end of text stands the blank
 unfoldable pub embossing : List ℕ → List ℕ → Sheet → List ℕ → Outcome
 embossing image text sheet out = embossFollowed blankFollows image text sheet out
+
+-- ---- The answer of laying out, with the count of pieces
+
+abbrev pub withPieces : ℕ → Filled → Answer
+withPieces n (Filled′.Done w l g) = Done w n l g
+withPieces n (Filled′.Refused r) = Refused r

@@ -5,7 +5,7 @@ use mathlib.Core.List.{List}
 use mathlib.Core.Path.{_≡_}
 use Rattle.layout.specs.Emboss.{number, place, written, pieces, lines, pages, embossing}
 use Rattle.layout.specs.declared.Answer.{Answer}
-use Rattle.layout.specs.declared.Sheet.{Sheet}
+use Rattle.pages.specs.declared.Sheet.{Sheet}
 
 -- `emboss`: the answer of the definitions, and their output in the bytes that were lent
 pub record Embossed (image text : List ℕ) (sheet : Sheet) (before : List ℕ) (answer : Answer) (after : List ℕ) : Type 0 where

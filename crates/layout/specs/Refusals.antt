@@ -2,24 +2,15 @@
 -- mentions no search, no verdict and no call. proofs/Refusals.antt shows that a refusal is the answer exactly when its line holds and no earlier one does.
 use Prim.Native.Nat.{ℕ, _+_, _<_}
 use mathlib.Core.List.{List}
-use mathlib.Core.Logic.{_⊎_}
 use lib.ListN.{length}
 use Rattle.table.specs.Numbers.{noPlace, numberSize, numberLongText, numberUnknown, numberRoom, mostText}
 use Rattle.table.specs.Refusals.{tableLines, Line as TableLine}
 use Rattle.table.specs.Table.{tableOf}
 use Rattle.translation.specs.Refusals.{TextTooLong, FirstUnknownAt}
 use Rattle.translation.specs.declared.Setting.{Setting}
-use Rattle.layout.specs.Numbers.{leastWidth, mostWidth, leastPage, mostPage}
+use Rattle.pages.specs.Refusals.{SizesWrong}
 use Rattle.layout.specs.Emboss.{bytesOf}
-use Rattle.layout.specs.declared.Sheet.{Sheet}
-
--- outside the limits
-abbrev pub Outside : ℕ → ℕ → ℕ → Type 0
-Outside least most n = (n < least) ⊎ (most < n)
-
--- W or P outside its limits
-abbrev pub SizesWrong : Sheet → Type 0
-SizesWrong sheet = Outside leastWidth mostWidth (sheet .width) ⊎ Outside leastPage mostPage (sheet .length)
+use Rattle.pages.specs.declared.Sheet.{Sheet}
 
 -- the bytes that the output needs
 abbrev pub needed : Setting → List ℕ → List ℕ → Sheet → ℕ

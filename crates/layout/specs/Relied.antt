@@ -15,19 +15,19 @@ use Rattle.translation.specs.Decide.{state, moved}
 use Rattle.translation.specs.Pieces.{Piece, characters, piecesOf, signsOf}
 use Rattle.translation.specs.Chosen.{Chosen, piece}
 use Rattle.translation.specs.Translate.{blankFollows}
-use Rattle.layout.specs.Numbers.{leastWidth, mostWidth, leastPage, mostPage}
-use Rattle.layout.specs.Lists.{only}
-use Rattle.layout.specs.Words.{Item, itemsOf}
-use Rattle.layout.specs.Pages.{pagesOf, bytesOfPages}
-use Rattle.layout.specs.Permitted.{Layout, Permitted}
-use Rattle.layout.specs.Spots.{NoLater}
-use Rattle.layout.specs.Fitting.{wordsIn}
-use Rattle.layout.specs.Right.{PageRight}
-use Rattle.layout.specs.Signs.{isDotted}
-use Rattle.layout.specs.Drawn.{volumeLines, Drawn}
+use Rattle.pages.specs.Numbers.{leastWidth, mostWidth, leastLength, mostLength}
+use Rattle.pages.specs.Lists.{only}
+use Rattle.pages.specs.Words.{Item, itemsOf}
+use Rattle.pages.specs.Pages.{pagesOf, bytesOfPages}
+use Rattle.pages.specs.Permitted.{Layout, Permitted}
+use Rattle.pages.specs.Spots.{NoLater}
+use Rattle.pages.specs.Fitting.{wordsIn}
+use Rattle.pages.specs.Right.{PageRight}
+use Rattle.pages.specs.Signs.{isDotted}
+use Rattle.pages.specs.Drawn.{volumeLines, Drawn}
 use Rattle.layout.specs.Emboss.{written, pieces, lines, pages, bytesOf}
 use Rattle.layout.specs.declared.Answer.{Answer}
-use Rattle.layout.specs.declared.Sheet.{Sheet}
+use Rattle.pages.specs.declared.Sheet.{Sheet}
 
 -- the bytes that the call wrote, read back out of the bytes afterwards
 abbrev pub wrote : Answer → List ℕ → List ℕ
@@ -52,7 +52,7 @@ pub record Untouched (before : List ℕ) (answer : Answer) (after : List ℕ) : 
 pub record Bounded (image : List ℕ) (sheet : Sheet) (before : List ℕ) (answer : Answer) (after : List ℕ) : Type 0 where
   pub accepted : verdictOf image ≡ Accepted
   pub width : Between leastWidth mostWidth (sheet .width)
-  pub page : Between leastPage mostPage (sheet .length)
+  pub page : Between leastLength mostLength (sheet .length)
   pub room : written answer ≤ length before
   pub beyond : drop (written answer) after ≡ drop (written answer) before
 

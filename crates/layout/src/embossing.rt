@@ -1,38 +1,45 @@
-// The whole of the paper in one call: a table image and a text in, cells in lines and pages out. Any image, text, sheet and output get
-// their answer; a refused call changes no byte, and a done one none beyond the bytes that it writes.
+// The whole of the paper in one call: a table image and a text in, cells in lines and pages out. Any image, text, sheet and output get their answer; a refused
+// call changes no byte, and a done one none beyond the bytes that it writes.
 
 ghost use mathlib.Core.Path.{_≡_};
-ghost use Rattle.layout.specs.Emboss.{sizesVerdict};
+ghost use Rattle.layout.specs.Emboss.{withPieces};
 ghost use Rattle.layout.specs.Promises.{Embossed};
 use crate::Answer;
-use crate::Sheet;
-use crate::filling::fill;
-use table::Refusal;
-use table::Verdict;
+use pages::Filled;
+use pages::Sheet;
+use pages::fill;
 use translation::Translation;
 use translation::translate;
 
-// Whether W and P are within their limits.
-fn sizes_verdict(sheet: Sheet) -> Verdict
-    ensures { λ r. ⌜ r ≡ sizesVerdict sheet ⌝ }
+// The answer of laying out, with the count of pieces.
+fn with_pieces(pieces: usize, filled: Filled) -> Answer
+    ensures { λ r. ⌜ r ≡ withPieces pieces filled ⌝ }
 {
-    if (8 <= sheet.width) & (sheet.width <= 60) & ((2 <= sheet.length) & (sheet.length <= 40)) {
-        Verdict::Accepted
-    } else {
-        Verdict::Refused(Refusal::Size)
+    match filled {
+        Filled::Done {
+            written: w,
+            lines: l,
+            pages: g,
+        } => Answer::Done {
+            written: w,
+            pieces: pieces,
+            lines: l,
+            pages: g,
+        },
+        Filled::Refused(refusal) => Answer::Refused(refusal),
     }
 }
 
-// The checks are made in the paper's order: the table's, the sizes', the text's, and last the room's.
+// The checks are made in the paper's order: the table's, the sheet's, the text's, and last the room's.
 pub fn emboss(image: &[u8], text: &[u8], sheet: Sheet, out: &mut [u8]) -> Answer
     ensures { λ r. ⌜ Embossed (now (image .entry)) (now (text .entry)) sheet (now (out .entry)) r (now (out .exit)) ⌝ }
 {
     let mut signs = [0u8; 65536];
-    match translate(image, text, sizes_verdict(sheet), &mut signs) {
+    match translate(image, text, sheet.verdict(), &mut signs) {
         Translation::Refused(refusal) => Answer::Refused(refusal),
         Translation::Done {
             pieces: pieces,
             signs: n,
-        } => fill(&signs[..n], pieces, sheet, out),
+        } => with_pieces(pieces, fill(&signs, n, sheet, out)),
     }
 }

@@ -1,38 +1,11 @@
-// The whole call: translated signs are gathered into words, laid out in lines and pages, and written as cells.
+// The whole call: a text is translated by a table, and its signs are laid out on sheets.
 // What each type means is said in specs/; this file has the types that the definitions and the calls share.
 
 mod answering;
 mod embossing;
-mod filling;
-mod measuring;
-mod moving;
-mod writing;
 
 pub use embossing::emboss;
 use table::Refusal;
-
-// A sheet: how many cells a line holds, and how many lines a page.
-pub struct Sheet {
-    pub width: usize,
-    pub length: usize,
-}
-
-// A place on the page: the cells of the line that is being filled, the lines that the page has, whether the next word opens a paragraph,
-// and what has been written so far, in bytes, lines and pages.
-pub struct Place {
-    pub column: usize,
-    pub line: usize,
-    pub opening: bool,
-    pub written: usize,
-    pub lines: usize,
-    pub pages: usize,
-}
-
-// How far the gathering of signs has come: the place, and how many cells of a word wait to be placed.
-struct Gathering {
-    place: Place,
-    cells: usize,
-}
 
 // What the whole call answers.
 pub enum Answer {

@@ -2,8 +2,8 @@
 // address, never null, and its length; bytes that are lent as `out` or `answer` are lent as nothing else in the same call.
 
 ghost use Rattle.press.specs.Promises.{Pressed};
-use layout::Sheet;
 use layout::emboss;
+use pages::Sheet;
 
 // Embosses a text, and stores the answer's six values: number, place, bytes written, pieces, lines, pages. A refused call changes no byte of `out`, and a
 // done one none beyond the bytes written.

@@ -6,7 +6,8 @@ use native.Mathlib.Nat.{add-zero}
 use native.Mathlib.Numerals.{add-one}
 use native.Mathlib.Omega.{arith}
 use lib.ListN.{length, getD, set, take, replicate, length-replicate, replicate-append-replicate}
-use lib.Seq.{sets, take-suc, length-take-le}
+use lib.Seq.{sets, length-sets, take-suc, length-take-le}
+use Rattle.table.specs.Wrote.{Wrote}
 
 pub sets-append : (l : List ℕ) (i : ℕ) (xs ys : List ℕ) → sets (sets l i xs) (i + length xs) ys ≡ sets l i (xs ++ ys)
 sets-append l i [] ys = ap (λ (k : ℕ). sets l k ys) (add-zero i)
@@ -35,3 +36,7 @@ same-more l at j byte =
     ap (λ (k : ℕ). set (sets l at (replicate j byte)) (at + k) byte) (sym (length-replicate j byte))
     ∙ sets-append l at (replicate j byte) (byte ∷ [])
     ∙ ap (λ (r : List ℕ). sets l at r) (replicate-append-replicate j 1 byte)
+
+-- what is written changes no length
+pub wrote-length : {before bytes after : List ℕ} {at : ℕ} → Wrote before at bytes after → length after ≡ length before
+wrote-length {before} {bytes} {after} {at} w = ap length (w .leaves) ∙ length-sets before at bytes

@@ -11,6 +11,7 @@ pub mod Verdict
 pub mod Found
 pub mod Wrote
 pub mod Refusals
+pub mod Printed
 pub mod Judging
 pub mod Laid
 pub mod Sound

@@ -20,7 +20,7 @@ use Rattle.table.proofs.Lists.{all-at, all-of-places, all-append}
 use Rattle.translation.specs.Letters.{noLetter, letter, letterOf, letterFor}
 use Rattle.translation.specs.Choose.{noEntry, entry}
 use Rattle.translation.specs.Pieces.{Piece, piecesIn, printed, signsOf}
-use Rattle.translation.specs.Signs.{PrintedSign, cell, format}
+use Rattle.table.specs.Printed.{PrintedSign, cell, format}
 use Rattle.translation.specs.Chosen.{noPiece, pieceIn}
 use Rattle.translation.specs.declared.Setting.{Setting}
 use Rattle.translation.proofs.Chosen.{first-in-order, chosen-fits}

@@ -10,7 +10,6 @@ pub mod Inside
 pub mod Translate
 pub mod Promises
 pub mod Refusals
-pub mod Signs
 pub mod Admissible
 pub mod Chosen
 pub mod Moved

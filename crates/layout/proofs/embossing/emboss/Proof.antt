@@ -1,14 +1,11 @@
--- `layout::embossing::emboss` meets its contract: each answer of the translation is a case of the whole call, and where it is done the signs at the front of
--- the local buffer are laid out.
+-- `layout::embossing::emboss` meets its contract: each answer of the translation is a case of the whole call.
 use borrow.Author.Needs.{needs}
-use mathlib.Core.Path.{sym}
-use lib.Seq.{length-take-le}
 use Rattle.layout.proofs.WholeCall.{whole-translated}
 use Rattle.layout.proofs.embossing.emboss.Statement.{statement}
 use Rattle.layout.proofs.embossing.emboss.Tie as tie
 
-sizes-verdict-requires : tie.Need-sizes-verdict-requires
-sizes-verdict-requires c κs = search needs
+verdict-requires : tie.Need-verdict-requires
+verdict-requires c κs = search needs
 
 translate-requires : tie.Need-translate-requires
 translate-requires c κs = search needs
@@ -19,47 +16,36 @@ enum-known-refusal c = search needs
 enum-known-pieces : tie.Need-enum-known-pieces
 enum-known-pieces c = search needs
 
-array-share-prefix-signs : tie.Need-array-share-prefix-signs
-array-share-prefix-signs c =
-    let a = c .before .before .before .before .before .before .before .before .before .args in
-    whole-translated _ _ _ (a .out .now) _ (c .before .before .before .before .before .sizes-verdict .ensures) (c .before .before .before .translate .ensures) (c .before .pieces .given .1) .0
-
-slice-aggregate-fill : tie.Need-slice-aggregate-fill
-slice-aggregate-fill c =
-    let told = c .before in
-    let a = told .before .before .before .before .before .before .before .before .before .args in
-    sym (length-take-le _ _ (whole-translated _ _ _ (a .out .now) _ (told .before .before .before .before .before .sizes-verdict .ensures) (told .before .before .before .translate .ensures) (told .before .pieces .given .1) .0))
-
 fill-requires : tie.Need-fill-requires
-fill-requires c κs =
-    let told = c .before .before in
-    let a = told .before .before .before .before .before .before .before .before .before .args in
-    whole-translated _ _ _ (a .out .now) _ (told .before .before .before .before .before .sizes-verdict .ensures) (told .before .before .before .translate .ensures) (told .before .pieces .given .1) .1
+fill-requires c κs = search needs
+
+with-pieces-requires : tie.Need-with-pieces-requires
+with-pieces-requires c κs = search needs
 
 returns : tie.Need-returns
 returns c =
-    whole-translated _ _ _ _ _ (c .before .before .before .before .before .sizes-verdict .ensures) (c .before .before .before .translate .ensures) (c .before .refusal .given .1)
+    whole-translated _ _ _ _ _ (c .before .before .before .before .before .verdict .ensures .is) (c .before .before .before .translate .ensures) (c .before .refusal .given .1)
 
 same-length : tie.Need-same-length
 same-length c = search needs
 
 returns-2 : tie.Need-returns-2
 returns-2 c =
-    let told = c .before .before .before .before .before in
-    let a = told .before .before .before .before .before .before .before .before .before .args in
-    whole-translated _ _ _ (a .out .now) _ (told .before .before .before .before .before .sizes-verdict .ensures) (told .before .before .before .translate .ensures) (told .before .pieces .given .1) .2 _ _ (c .before .before .fill .ensures)
+    let filled = c .before .before .before in
+    let told = filled .before .before .before in
+    let case = whole-translated _ _ _ _ _ (told .before .before .before .before .before .verdict .ensures .is) (told .before .before .before .translate .ensures) (told .before .pieces .given .1) in
+    rw (c .with-pieces .ensures) (case _ _ (filled .fill .ensures))
 
 pub emboss-spec : {M : Type 1} → statement M
 emboss-spec =
     tie.close
     (tie.spec
-    sizes-verdict-requires
+    verdict-requires
     translate-requires
     enum-known-refusal
     enum-known-pieces
-    array-share-prefix-signs
-    slice-aggregate-fill
     fill-requires
+    with-pieces-requires
     returns
     same-length
     returns-2)

@@ -1,0 +1,15 @@
+pub mod Numbers
+pub mod Words
+pub mod Place
+pub mod Fill
+pub mod Promises
+pub mod Refusals
+pub mod Pages
+pub mod Permitted
+pub mod Spots
+pub mod Lists
+pub mod Fitting
+pub mod Right
+pub mod Signs
+pub mod Drawn
+pub mod inside

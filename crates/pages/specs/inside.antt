@@ -1,0 +1,3 @@
+pub mod Gather
+pub mod Writing
+pub mod Computing
