@@ -9,7 +9,7 @@ use native.Mathlib.Omega.{arith}
 use lib.ListN.{length, take, drop, length-append}
 use lib.Seq.{drop-append-seam, take-append-seam}
 use Rattle.table.specs.Numbers.{numberDone}
-use Rattle.table.specs.Answers.{FirstLine}
+use Rattle.table.specs.FirstLine.{FirstLine}
 use Rattle.table.specs.Refusals.{Between}
 use Rattle.table.specs.Table.{tableOf}
 use Rattle.table.specs.Verdict.{verdictOf}
@@ -134,7 +134,7 @@ module _ (image text : List ℕ) (sheet : Sheet) (before : List ℕ) (answer : A
         record {
           accepted = table-accepted;
           width = sizes .0;
-          page = sizes .1;
+          page-length = sizes .1;
           room = subst (λ (n : ℕ). n ≤ length before) (sym is-written) room-for;
           beyond =
               subst (λ (n : ℕ). drop n after ≡ drop n before) (sym is-written)

@@ -52,7 +52,7 @@ pub record Untouched (before : List ℕ) (answer : Answer) (after : List ℕ) : 
 pub record Bounded (image : List ℕ) (sheet : Sheet) (before : List ℕ) (answer : Answer) (after : List ℕ) : Type 0 where
   pub accepted : verdictOf image ≡ Accepted
   pub width : Between leastWidth mostWidth (sheet .width)
-  pub page : Between leastLength mostLength (sheet .length)
+  pub page-length : Between leastLength mostLength (sheet .length)
   pub room : written answer ≤ length before
   pub beyond : drop (written answer) after ≡ drop (written answer) before
 

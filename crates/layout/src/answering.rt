@@ -1,12 +1,13 @@
 // The six values of an answer: its number and place, the bytes written, the pieces, the lines and the pages. A refusal has the last four 0.
 
-ghost use Rattle.layout.specs.Promises.{AnswerNumber, AnswerPlace, AnswerWritten, AnswerPieces, AnswerLines, AnswerPages};
+ghost use Rattle.layout.specs.Emboss.{number, place, written, pieces, lines, pages};
+ghost use Rattle.layout.specs.Promises.{Tells};
 use crate::Answer;
 
 impl Answer {
     // 0 where the call is done, and otherwise the paper's number of the refusal.
     pub fn number(self) -> u8
-        ensures { λ r. ⌜ AnswerNumber self r ⌝ }
+        ensures { λ r. ⌜ Tells number self r ⌝ }
     {
         match self {
             Answer::Done {
@@ -20,7 +21,7 @@ impl Answer {
     }
 
     pub fn place(self) -> usize
-        ensures { λ r. ⌜ AnswerPlace self r ⌝ }
+        ensures { λ r. ⌜ Tells place self r ⌝ }
     {
         match self {
             Answer::Done {
@@ -34,7 +35,7 @@ impl Answer {
     }
 
     pub fn written(self) -> usize
-        ensures { λ r. ⌜ AnswerWritten self r ⌝ }
+        ensures { λ r. ⌜ Tells written self r ⌝ }
     {
         match self {
             Answer::Done {
@@ -48,7 +49,7 @@ impl Answer {
     }
 
     pub fn pieces(self) -> usize
-        ensures { λ r. ⌜ AnswerPieces self r ⌝ }
+        ensures { λ r. ⌜ Tells pieces self r ⌝ }
     {
         match self {
             Answer::Done {
@@ -62,7 +63,7 @@ impl Answer {
     }
 
     pub fn lines(self) -> usize
-        ensures { λ r. ⌜ AnswerLines self r ⌝ }
+        ensures { λ r. ⌜ Tells lines self r ⌝ }
     {
         match self {
             Answer::Done {
@@ -76,7 +77,7 @@ impl Answer {
     }
 
     pub fn pages(self) -> usize
-        ensures { λ r. ⌜ AnswerPages self r ⌝ }
+        ensures { λ r. ⌜ Tells pages self r ⌝ }
     {
         match self {
             Answer::Done {

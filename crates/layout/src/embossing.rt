@@ -2,7 +2,7 @@
 // call changes no byte, and a done one none beyond the bytes that it writes.
 
 ghost use mathlib.Core.Path.{_≡_};
-ghost use Rattle.layout.specs.Emboss.{withPieces};
+ghost use Rattle.layout.specs.inside.Pieces.{withPieces};
 ghost use Rattle.layout.specs.Promises.{Embossed};
 use crate::Answer;
 use pages::Filled;

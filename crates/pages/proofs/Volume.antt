@@ -15,7 +15,8 @@ use Rattle.table.proofs.Lists.{all-append, all-at}
 use Rattle.pages.specs.Numbers.{lineMark, pageMark}
 use Rattle.pages.specs.Words.{Item}
 use Rattle.pages.specs.Place.{start, afterPage, afterCells, cellsAfter, volumeEnd, volume}
-use Rattle.pages.specs.Pages.{Line, Page, bytesOfLines, bytesOfPages, pagesFrom, pagesOf, count}
+use Rattle.pages.specs.Pages.{Line, Page, bytesOfLines, bytesOfPages, pagesFrom, pagesOf}
+use Rattle.table.specs.Search.{count}
 use Rattle.pages.specs.Fitting.{WordFits, Fitting}
 use Rattle.pages.specs.Right.{IsCell, LineRight, PageRight}
 use Rattle.pages.specs.declared.Place.{Place}

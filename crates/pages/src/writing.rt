@@ -6,7 +6,7 @@ ghost use Prim.Native.Nat.{_+_, _*_, _<_, _≤_, _^_};
 ghost use mathlib.Core.List.{[]};
 ghost use lib.ListN.{length, replicate, take};
 ghost use Rattle.table.specs.Numbers.{entrySigns, mostText};
-ghost use Rattle.table.specs.Wrote.{Wrote};
+ghost use Rattle.table.specs.inside.Wrote.{Wrote};
 ghost use Rattle.pages.specs.Numbers.{mostWidth};
 ghost use Rattle.pages.specs.Words.{itemsOf};
 ghost use Rattle.pages.specs.Place.{afterWord, standing, moveBytes, volume};

@@ -7,7 +7,7 @@ ghost use Prim.Native.Nat.{ℕ, _<_};
 ghost use Rattle.table.specs.Table.{entryAt, tableIn};
 ghost use Rattle.table.specs.Grouping.{agreement, breaksAt, firstBreak};
 ghost use Rattle.table.specs.Verdict.{strings};
-ghost use Rattle.table.specs.Found.{found};
+ghost use Rattle.table.specs.inside.Found.{found};
 use crate::Found;
 use crate::Sections;
 use crate::read::offset_of;

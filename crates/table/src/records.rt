@@ -7,8 +7,8 @@ ghost use Rattle.table.specs.Numbers.{leastClass, stringByte, mostLength
 ghost use Rattle.table.specs.Search.{within, first, every};
 ghost use Rattle.table.specs.Sections.{recordByte};
 ghost use Rattle.table.specs.Records.{rightSymbol, rightLetterSign, rightEntrySign, rightSignAfter, rightCondition, letterRule, entryRule, decisionRule, rightRecord, sectionNamed, firstWrong};
-ghost use Rattle.table.specs.Found.{found};
-ghost use Rattle.table.specs.Judging.{LettersBySymbol, rightByte, rightCharacter, nameAt, rightAt, wrongAt, foundWrong};
+ghost use Rattle.table.specs.inside.Found.{found};
+ghost use Rattle.table.specs.inside.Judging.{LettersBySymbol, rightByte, rightCharacter, nameAt, rightAt, wrongAt, foundWrong};
 use crate::Found;
 use crate::Section;
 use crate::Sections;

@@ -8,11 +8,11 @@ ghost use Rattle.table.specs.Numbers.{entrySize, lengthByte, stringByte, leastL
 ghost use Rattle.table.specs.Search.{member};
 ghost use Rattle.table.specs.Sections.{offset, recordByte, recordPart};
 ghost use Rattle.table.specs.Table.{tableIn, entryAt};
-ghost use Rattle.table.specs.Found.{found};
+ghost use Rattle.table.specs.inside.Found.{found};
 ghost use Rattle.table.specs.Refusals.{Between};
 ghost use Rattle.translation.specs.Choose.{begins, classAfter, contextHolds, admissible, entry, choice};
-ghost use Rattle.translation.specs.Opened.{Opened};
-ghost use Rattle.translation.specs.States.{statesIn};
+ghost use Rattle.translation.specs.inside.Opened.{Opened};
+ghost use Rattle.translation.specs.inside.States.{statesIn};
 use crate::Setting;
 use crate::alphabet::class_of;
 use crate::deciding::decide;

@@ -6,8 +6,8 @@ ghost use lib.ListN.{replicate};
 ghost use Rattle.table.specs.Numbers.{mostVariables};
 ghost use Rattle.table.specs.Table.{tableIn};
 ghost use Rattle.translation.specs.Decide.{turned, moved};
-ghost use Rattle.translation.specs.Opened.{Opened};
-ghost use Rattle.translation.specs.States.{statesIn};
+ghost use Rattle.translation.specs.inside.Opened.{Opened};
+ghost use Rattle.translation.specs.inside.States.{statesIn};
 use crate::deciding::byte_of_class;
 use table::Sections;
 

@@ -44,7 +44,8 @@ use Rattle.table.proofs.Sections as S
 use Rattle.table.proofs.Sections.Laws as S′
 use Rattle.table.proofs.Verdict as E
 use Rattle.table.proofs.Verdict.Laws as E′
-use Rattle.translation.specs.Translate.{Ends, handed, translateOn}
+use Rattle.translation.specs.Translate.{translateOn}
+use Rattle.translation.specs.Handed.{Ends, handed}
 use Rattle.translation.specs.declared.Terms.{Terms}
 use Rattle.translation.proofs.Terms as P
 use Rattle.translation.proofs.Terms.Laws as P′
