@@ -65,8 +65,8 @@ module _ {M : Type 1} (𝓤 : URA M) (H : Heap 𝓤) (A : Atoms 𝓤) (W : Given
         qed W (raw (alive 𝓤 H A verdict.signature κs (q, tt)) ∷ ‵ (owns (R.the-row (α κs) ∷ []) (d, tt) (reader ∷ [], tt)) ∷ []) ∵
         enter ! C Λ code.function (reader ∷ []) _ $
         alloc1 ! (λ l₀. alloc1 ! (λ l₁. alloc0 ! $ params1 ! $ pass1 ! (init ! 0 refl (reader-typed 𝓤 H A W (α κs) d is)) $ pass0 ! $
-        -- [_1; …; room for _0; …; the token; what the reader owns]
-        assigns ! (of-opd ! (load ! (from ! (fld ! refl (stop !))) (look-in ! 0 (sub ! 2 refl (whole !))))) (from ! (stop !))
+        -- [_1; …; room for _0; …; the token; what the reader owns]: the verdict lies 56 bytes into the reader
+        assigns ! (of-opd ! (load ! (from ! (fld ! {τ = E′.mir} {d = 56} refl (stop !))) (look-in ! 0 {τ = E′.mir} (sub ! 2 {τ = E′.mir} {d = 56} refl (whole !))))) (from ! (stop !))
         (init ! 2 refl (verdict-typed 𝓤 H A W (d .verdict) holds)) $
         returns ! (look ! 2 refl) $ move ! (2 ∷ 3 ∷ []) $ gone ! $ gone ! $ free0 ! $
         nothing ! $ nothing ! $ fjoin ! $ owned ! E.the-row (Is E.the-row) (EL.makes E.the-type E′.the-plain 𝓤 H A) (d .verdict) _ holds $

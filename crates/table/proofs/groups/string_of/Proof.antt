@@ -1,11 +1,15 @@
 -- `table::groups::string_of` meets its contract: where the image ends within the string, or before it, the definition takes what there is.
 use borrow.Author.Needs.{needs}
 use Prim.Native.Nat.{ℕ, _+_, _-_}
-use mathlib.Core.Path.{_≡_, ap}
+use mathlib.Core.List.{List}
+use mathlib.Core.Path.{_≡_, _∙_, ap, ap₂}
+use native.Mathlib.Nat.{add-sub-cancel-left}
 use native.Mathlib.Omega.{arith}
 use lib.ListN.{length, take, drop}
-use Rattle.table.specs.Sections.{recordPart, bytesFrom}
+use Rattle.table.specs.Numbers.{lengthByte}
+use Rattle.table.specs.Sections.{offset, recordByte, recordPart, bytesFrom}
 use Rattle.table.specs.Table.{entryAt}
+use Rattle.table.specs.declared.Sections.{Sections}
 use Rattle.table.proofs.GroupLaws.{take-past}
 use Rattle.table.proofs.groups.string_of.Statement.{statement}
 use Rattle.table.proofs.groups.string_of.Tie as tie
@@ -34,15 +38,19 @@ part-result-start c = search needs
 part-result-end : tie.Need-part-result-end
 part-result-end c = search needs
 
-returns : tie.Need-returns
+-- the string, from what was read: its length and the record's offset
+string-is : (image : List ℕ) (s : Sections) (k : ℕ) {n o : ℕ} → n ≡ recordByte image (s .contractions) k lengthByte → o ≡ offset (s .contractions) k
+    → take n (drop (o + 1) image) ≡ entryAt image s k .string
 unfolding entryAt recordPart bytesFrom
+string-is image s k n o = ap₂ (λ (m at : ℕ). take m (drop (at + 1) image)) n o
+
+returns : tie.Need-returns
 returns c =
-    let i = c .before .before .before .before .before .before .args .image .now in
+    let a = c .before .before .before .before .before .before .args in
     let n = c .before .before .before .record-byte in
     let o = c .before .before .offset-of in
-    let at = o .result + 1 in
-    let size : at + n .result - at ≡ n .result = omega arith in
-    rw (← n .ensures .is, ← o .ensures .0) (ap (λ (m : ℕ). take m (drop at i)) size)
+    ap (λ (m : ℕ). take m (drop (o .result + 1) (a .image .now))) (add-sub-cancel-left (o .result + 1) (n .result))
+    ∙ string-is (a .image .now) (a .s) (a .k) (n .ensures .is) (o .ensures .0)
 
 sub-result-2 : tie.Need-sub-result-2
 sub-result-2 c = search needs
@@ -54,13 +62,13 @@ part-result-end-2 : tie.Need-part-result-end-2
 part-result-end-2 c = search needs
 
 returns-2 : tie.Need-returns-2
-unfolding entryAt recordPart bytesFrom
 returns-2 c =
-    let i = c .before .before .before .before .before .before .before .args .image .now in
+    let a = c .before .before .before .before .before .before .before .args in
+    let i = a .image .now in
     let n = c .before .before .before .before .record-byte in
     let o = c .before .before .before .offset-of in
     let at = o .result + 1 in
-    rw (← n .ensures .is, ← o .ensures .0) (take-past i at (length i - at) (n .result) (omega arith) (omega arith))
+    take-past i at (length i - at) (n .result) (omega arith) (omega arith) ∙ string-is i (a .s) (a .k) (n .ensures .is) (o .ensures .0)
 
 sub-result-3 : tie.Need-sub-result-3
 sub-result-3 c = search needs
@@ -72,12 +80,12 @@ part-result-end-3 : tie.Need-part-result-end-3
 part-result-end-3 c = search needs
 
 returns-3 : tie.Need-returns-3
-unfolding entryAt recordPart bytesFrom
 returns-3 c =
-    let i = c .before .before .before .before .before .before .before .args .image .now in
+    let a = c .before .before .before .before .before .before .before .args in
+    let i = a .image .now in
     let n = c .before .before .before .before .record-byte in
     let o = c .before .before .before .offset-of in
-    rw (← n .ensures .is, ← o .ensures .0) (take-past i (o .result + 1) 0 (n .result) (omega arith) (omega arith))
+    take-past i (o .result + 1) 0 (n .result) (omega arith) (omega arith) ∙ string-is i (a .s) (a .k) (n .ensures .is) (o .ensures .0)
 
 pub string-of-spec : {M : Type 1} → statement M
 string-of-spec =
