@@ -1,5 +1,6 @@
 /* The whole call, as the archive of crates/press defines it, and its twin in C. A slice crosses as an address that is never null and a
-   length. The bytes at out and answer are lent as nothing else in the same call. Lengths have 64 bits: both are for x86-64 alone. */
+   length. The bytes at out and answer are lent as nothing else in the same call. The sheet crosses as two numbers: width is W, the cells
+   of a line, and page is P, the lines of a page. Lengths have 64 bits: both are for x86-64 alone. */
 #ifndef PRESS_H
 #define PRESS_H
 
