@@ -1,5 +1,6 @@
--- The three demands of the whole call. Each theorem has one hypothesis, the promise of `emboss`: whatever answer and bytes afterwards it allows for an
--- image, a text, W, P and the bytes lent, they have the property.
+-- The three demands of the whole call. Each theorem assumes the promise of `emboss`, and some the
+-- answer's number besides: whatever answer and bytes afterwards the promise allows for an image, a
+-- text, a sheet and the bytes lent, they have the property.
 use Prim.Native.Nat.{ℕ, suc, _<_, _≤_}
 use mathlib.Core.List.{List, _++_, flatten}
 use mathlib.Core.Logic.{_↔_}

@@ -1,5 +1,5 @@
--- What a caller of the whole call may rely on, in the words of the three demands: of an image, a text, W, P, the bytes lent, the answer and the bytes
--- afterwards. proofs/Relied.antt shows each of whatever answer and bytes the promise of `emboss` allows.
+-- What a caller of the whole call may rely on, in the words of the three demands: of an image, a text, a sheet, the bytes lent, the answer and the
+-- bytes afterwards. proofs/Relied.antt shows each of whatever answer and bytes the promise of `emboss` allows.
 use Prim.Native.Nat.{ℕ, suc, _<_, _≤_}
 use mathlib.Core.Bool.{false}
 use mathlib.Core.List.{List, map, flatten}

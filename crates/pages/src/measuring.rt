@@ -61,7 +61,7 @@ fn step(p: Place, n: usize, g: u8, sheet: Sheet) -> Gathering
     }
 }
 
-// The place at the end of the text, for the signs of a text.
+// The place at the end of the signs.
 pub(crate) fn measure(signs: &[u8], sheet: Sheet) -> Place
     requires { ⌜ (length (now signs) ≤ entrySigns * mostText) × (1 ≤ sheet .width) × (sheet .width ≤ mostWidth) ⌝ }
     ensures { λ r. ⌜ r ≡ volumeEnd sheet (itemsOf (sheet .width) (now (signs .entry))) ⌝ }

@@ -112,7 +112,7 @@ fn put_sign(out: &mut [u8], p: Place, word: &mut [u8], n: usize, g: u8, sheet: S
     Gathering { place: p, cells: m }
 }
 
-// All signs of a text are written, and the end of the text.
+// All signs are written, and the end of the text.
 pub(crate) fn write(signs: &[u8], sheet: Sheet, out: &mut [u8])
     requires { ⌜ (length (now signs) ≤ entrySigns * mostText) × (1 ≤ sheet .width) × (sheet .width ≤ mostWidth) × (length (volume sheet (itemsOf (sheet .width) (now signs))) ≤ length (now out)) ⌝ }
     ensures { λ _. ⌜ Wrote (now (out .entry)) 0 (volume sheet (itemsOf (sheet .width) (now (signs .entry)))) (now (out .exit)) ⌝ }

@@ -1,4 +1,5 @@
-// A contraction table's stored image: where its five sections lie, what is wrong with it, if anything, and its records, read where they lie.
+// A contraction table's stored image: where its five sections lie, what is wrong with it, if anything, and its records, read where they lie; and the refusals
+// of every call.
 // No function has to be asked with care: each answers for every image and every index. What each answer means is said in specs/.
 
 mod framing;

@@ -1,4 +1,5 @@
-// The whole call: the table is opened, once, and judged, then the text, and then the text is collapsed and its pieces print their signs.
+// A text by a table: the table is opened, once, and judged, then come the caller's own checks and
+// the text's; then the text is collapsed and its pieces print their signs.
 
 ghost use Prim.Native.Nat.{_*_, _≤_};
 ghost use lib.ListN.{length};
