@@ -1,4 +1,5 @@
-// The six values of an answer: its number and place, the bytes written, the pieces, the lines and the pages. A refusal has the last four 0.
+// The six values of an answer: its number and place, the bytes written, the pieces, the lines and
+// the pages. A refusal has the last four 0.
 
 ghost use Rattle.layout.specs.Emboss.{number, place, written, pieces, lines, pages};
 ghost use Rattle.layout.specs.Promises.{Tells};

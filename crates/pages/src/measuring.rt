@@ -1,4 +1,5 @@
-// The pass of the place alone: sign by sign, without writing. It gives the place at the end of the text, and with it the bytes that are needed.
+// The pass of the place alone: sign by sign, without writing. It gives the place at the end of the
+// text, and with it the bytes that are needed.
 
 ghost use mathlib.Core.Path.{_≡_};
 ghost use Prim.Native.Nat.{_*_, _<_, _≤_, _^_};

@@ -1,4 +1,5 @@
-// The alphabet: which record has a symbol, the class and the sign of a symbol, and the first character of a text that has no record.
+// The alphabet: which record has a symbol, the class and the sign of a symbol, and the first
+// character of a text that has no record.
 
 ghost use mathlib.Core.Path.{_≡_};
 ghost use Prim.Native.Nat.{_≤_};

@@ -1,4 +1,5 @@
-// Collapsing a text: bars go, line feeds become blanks, and of each run of blanks only the first is kept, or the first two after a period.
+// Collapsing a text: bars go, line feeds become blanks, and of each run of blanks only the first is
+// kept, or the first two after a period.
 
 ghost use mathlib.Core.Path.{_≡_};
 ghost use Prim.Native.Nat.{_≤_, _<_};
@@ -6,7 +7,8 @@ ghost use lib.ListN.{length};
 ghost use Rattle.translation.specs.Collapse.{unfed, keptAfter, collapsed};
 ghost use Rattle.translation.specs.inside.Making.{Thins, WroteUntil};
 
-// How far collapsing has come: how many characters are written, and how many blanks are kept of a run that stands here.
+// How far collapsing has come: how many characters are written, and how many blanks are kept of a
+// run that stands here.
 struct Run {
     written: usize,
     kept: u8,

@@ -1,4 +1,5 @@
-// The state variables: all start at no, and each piece's class moves them. The states are a value that goes in and comes back.
+// The state variables: all start at no, and each piece's class moves them. The states are a value
+// that goes in and comes back.
 
 ghost use mathlib.Core.Path.{_≡_};
 ghost use mathlib.Core.Bool.{false};
