@@ -1,5 +1,6 @@
-// Answers many cases in one run, for the comparison in tests/: reads cases from standard input, one after another until it ends, and writes to standard
-// output what the whole call answers to each and every byte of the buffer that was lent. Numbers are low byte first.
+// Answers many cases in one run, for the comparison in tests/: reads cases from standard input, one
+// after another until it ends, and writes to standard output what the whole call answers to each
+// and every byte of the buffer that was lent. Numbers are low byte first.
 //
 // A case:     4 bytes  length of the table image, at most 65,536
 //             4 bytes  length of the text, at most 17,000
@@ -11,8 +12,9 @@
 //             8 bytes  each: place, bytes written, pieces, lines, pages
 //             the whole buffer of `room` bytes after the call; before it byte i, counted from 0, was the low eight bits of 7 i + 13
 //
-// A case over these limits, or one that the input cuts short, gets no answer, and the run ends there. The file stdin beside this folder has two cases by the
-// paper's table, COME with 8 bytes of room and `A|a` with 4, and stdout their answers.
+// A case over these limits, or one that the input cuts short, gets no answer, and the run ends
+// there. The file stdin beside this folder has two cases by the paper's table, COME with 8 bytes of
+// room and `A|a` with 4, and stdout their answers.
 
 ghost use Prim.Native.Nat.{_≤_};
 ghost use Rattle.io.specs.Counts.{Counts};
@@ -101,7 +103,8 @@ fn write_answer(answer: Answer) -> bool {
         & write_eight(answer.pages())
 }
 
-// Reads the next `n` bytes of the input into the front of the buffer, and answers how many came; none where the buffer hasn't the room.
+// Reads the next `n` bytes of the input into the front of the buffer, and answers how many came;
+// none where the buffer hasn't the room.
 fn read_front(bytes: &mut [u8], n: usize) -> usize
     ensures { λ r. ⌜ Counts r (now (bytes .exit)) ⌝ }
 {
@@ -148,7 +151,8 @@ fn answer_next() -> bool {
     answer_with(read_head(&head))
 }
 
-// A proved loop has to end, and nothing says that the input does: the cases are counted down from a number that no run uses up.
+// A proved loop has to end, and nothing says that the input does: the cases are counted down from a
+// number that no run uses up.
 fn main() {
     let mut left = u64::MAX;
     while left > 0 && answer_next() {

@@ -1,4 +1,5 @@
-// Translates standard input by the table in the file `cases.tab` of the current folder, with W 8 and P 2, and prints the answer, the cells and the pages.
+// Translates standard input by the table in the file `cases.tab` of the current folder, with W 8
+// and P 2, and prints the answer, the cells and the pages.
 use libc::STDIN_FILENO;
 use pages::Sheet;
 

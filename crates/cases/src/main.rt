@@ -1,5 +1,7 @@
-// The paper's run cases: what the whole call answers at its limits, for each refusal 1 to 8 with its place, and where two refusals hold at once.
-// Each case prints its answer in the form of `brailleout`. Some go on with the cells and pages; the others say whether the bytes lent are as they were.
+// The paper's run cases: what the whole call answers at its limits, for each refusal 1 to 8 with
+// its place, and where two refusals hold at once. Each case prints its answer in the form of
+// `brailleout`. Some go on with the cells and pages; the others say whether the bytes lent are as
+// they were.
 use libc::STDOUT_FILENO;
 use pages::Sheet;
 
@@ -50,7 +52,8 @@ fn answered(image: &[u8], text: &[u8], sheet: Sheet) {
     tell(image, text, sheet, &mut out);
 }
 
-// Words and paragraphs: nine A (lines of 8 and 1); `$P` with seven A (column 0); seven A and one more (a word joined would be too long); the empty text.
+// Words and paragraphs: nine A (lines of 8 and 1); `$P` with seven A (column 0); seven A and one
+// more (a word joined would be too long); the empty text.
 fn words(image: &[u8]) {
     show(image, &[65; 9], sheet(8, 2));
     show(
@@ -89,8 +92,9 @@ fn text_and_room(image: &[u8]) {
     tell(image, &come, sheet(8, 2), &mut [170; 4]);
 }
 
-// A table of 13 bytes, and where two refusals hold at once: a damaged table with a bad width; a bad width with an overlong text; an unknown character with
-// too little room; an overlong text with an unknown character.
+// A table of 13 bytes, and where two refusals hold at once: a damaged table with a bad width; a bad
+// width with an overlong text; an unknown character with too little room; an overlong text with an
+// unknown character.
 fn orders(image: &[u8]) {
     answered(&[0; 13], &[65], sheet(8, 2));
     answered(&[0; 13], &[65], sheet(7, 2));
@@ -107,7 +111,8 @@ fn all(image: &[u8]) {
     orders(image);
 }
 
-// A wrong byte: of a letter's class (2), of the blank's symbol (3), of an entry's string, which parts two that begin alike (4).
+// A wrong byte: of a letter's class (2), of the blank's symbol (3), of an entry's string, which
+// parts two that begin alike (4).
 fn main() {
     let mut image = [0u8; 32768];
     let held = console::read_table(&mut image);

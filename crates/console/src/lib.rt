@@ -1,12 +1,14 @@
-// What the programs read and print: the table file, and to standard output an answer and the output's bytes in the paper's form, numbers in decimal
-// parted by one blank. No contract can say which bytes a call of the C library reads or writes, so these promise only that they are safe and end, and that
-// what was read lies within the bytes lent; the programs' runs are compared.
+// What the programs read and print: the table file, and to standard output an answer and the
+// output's bytes in the paper's form, numbers in decimal parted by one blank. No contract can say
+// which bytes a call of the C library reads or writes, so these promise only that they are safe and
+// end, and that what was read lies within the bytes lent; the programs' runs are compared.
 
 ghost use Rattle.io.specs.Counts.{Counts};
 use layout::Answer;
 use libc::STDOUT_FILENO;
 
-// The first 32,768 bytes of the file `cases.tab` of the current folder, and how many there are. A file that can't be opened counts as empty.
+// The first 32,768 bytes of the file `cases.tab` of the current folder, and how many there are. A
+// file that can't be opened counts as empty.
 pub fn read_table(image: &mut [u8; 32768]) -> usize
     ensures { λ r. ⌜ Counts r (now (image .exit)) ⌝ }
 {

@@ -21,14 +21,15 @@ use Rattle.pages.specs.Numbers.{leastWidth, mostWidth, leastLength, mostLength,
 use Rattle.pages.specs.Lists.{only}
 use Rattle.pages.specs.Words.{Item, itemsOf}
 use Rattle.pages.specs.Place.{volume}
-use Rattle.pages.specs.Pages.{pagesOf, bytesOfPages, count}
+use Rattle.pages.specs.Pages.{pagesOf, bytesOfPages}
+use Rattle.table.specs.Search.{count}
 use Rattle.pages.specs.Permitted.{Layout, Permitted}
 use Rattle.pages.specs.Spots.{layoutOf, withChoices, NoLater}
 use Rattle.pages.specs.Fitting.{Fitting, wordsIn}
 use Rattle.pages.specs.Right.{PageRight}
 use Rattle.pages.specs.Signs.{isDotted}
 use Rattle.pages.specs.Drawn.{volumeLines, Drawn}
-use Rattle.pages.specs.Fill.{bytesOf as bytesOfSigns}
+use Rattle.pages.specs.Volume.{bytesOf as bytesOfSigns}
 use Rattle.layout.specs.Emboss.{bytesOf}
 use Rattle.pages.proofs.Permitted as Permitted-laws
 use Rattle.pages.proofs.NoLater as NoLater-laws
@@ -39,7 +40,7 @@ use Rattle.pages.proofs.Signs.{volume-has-the-signs}
 use Rattle.pages.proofs.Drawn.{spots-are-the-bytes, choices-are-the-bytes}
 use Rattle.pages.specs.declared.Sheet.{Sheet}
 
-module _ (setting : Setting) (image text : List ℕ) (sheet : Sheet) (width : Between leastWidth mostWidth (sheet .width)) (page : Between leastLength mostLength (sheet .length))
+module _ (setting : Setting) (image text : List ℕ) (sheet : Sheet) (width : Between leastWidth mostWidth (sheet .width)) (page-length : Between leastLength mostLength (sheet .length))
     (accepted : verdictOf image ≡ Accepted) where
   -- the signs of the text, and its words and format signs
   abbrev signs : List ℕ
@@ -61,7 +62,7 @@ module _ (setting : Setting) (image text : List ℕ) (sheet : Sheet) (width : Be
   text-fits = items-fit (let w = width .low in omega arith) signs (signs-printed (tableOf image) (accepted-sound image accepted) setting (collapsed text))
 
   page-room : 0 < sheet .length
-  page-room = let p = page .low in omega arith
+  page-room = let p = page-length .low in omega arith
 
   -- no line has more than W cells or ends in a blank, its cells are at most 63; no page has more than P lines, or none
   pub text-pages-right : All (PageRight sheet) (pagesOf (bytesOf (tableOf image) setting text sheet))

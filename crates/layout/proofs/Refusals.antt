@@ -13,7 +13,8 @@ use lib.ListN.{length, drop}
 use lib.Seq.{drop-append-seam}
 use borrow.Author.Tests.{leb-true, leb-false}
 use Rattle.table.specs.Numbers.{numberDone, mostText}
-use Rattle.table.specs.Answers.{refusalNumber, refusalPlace, FirstLine}
+use Rattle.table.specs.Answers.{refusalNumber, refusalPlace}
+use Rattle.table.specs.FirstLine.{FirstLine}
 use Rattle.table.specs.Refusals.{tableLines, Line as TableLine}
 use Rattle.table.specs.Table.{tableOf}
 use Rattle.table.specs.Verdict.{verdictOf}
@@ -33,7 +34,7 @@ use Rattle.translation.proofs.Outcomes.{too-long, unknown-at, made-by, table-re
 use Rattle.translation.proofs.Refusals.{unknown-exactly-when, none-unknown-exactly-when}
 use Rattle.layout.specs.Emboss.{number, place, written, Outcome, refused, done, bytesOf, roomed, laid, termsOf, embossFollowed}
 use Rattle.layout.specs.Refusals.{Line, of-table, line-5, line-6, line-7, line-8}
-use Rattle.pages.specs.Fill.{sheetRight}
+use Rattle.pages.specs.Volume.{sheetRight}
 use Rattle.pages.specs.Refusals.{SizesWrong}
 use Rattle.pages.proofs.Sizes.{sizes-wrong, sizes-accepted, sizes-refused, sizes-not-wrong}
 use Rattle.pages.specs.declared.Sheet.{Sheet}

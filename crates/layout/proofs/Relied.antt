@@ -1,5 +1,6 @@
--- The three demands of the whole call. Each theorem has one hypothesis, the promise of `emboss`: whatever answer and bytes afterwards it allows for an
--- image, a text, W, P and the bytes lent, they have the property.
+-- The three demands of the whole call. Each theorem assumes the promise of `emboss`, and some the
+-- answer's number besides: whatever answer and bytes afterwards the promise allows for an image, a
+-- text, a sheet and the bytes lent, they have the property.
 use Prim.Native.Nat.{ℕ, suc, _<_, _≤_}
 use mathlib.Core.List.{List, _++_, flatten}
 use mathlib.Core.Logic.{_↔_}
@@ -9,7 +10,7 @@ use native.Mathlib.Omega.{arith}
 use lib.ListN.{length, take, drop, length-append}
 use lib.Seq.{drop-append-seam, take-append-seam}
 use Rattle.table.specs.Numbers.{numberDone}
-use Rattle.table.specs.Answers.{FirstLine}
+use Rattle.table.specs.FirstLine.{FirstLine}
 use Rattle.table.specs.Refusals.{Between}
 use Rattle.table.specs.Table.{tableOf}
 use Rattle.table.specs.Verdict.{verdictOf}
@@ -134,7 +135,7 @@ module _ (image text : List ℕ) (sheet : Sheet) (before : List ℕ) (answer : A
         record {
           accepted = table-accepted;
           width = sizes .0;
-          page = sizes .1;
+          page-length = sizes .1;
           room = subst (λ (n : ℕ). n ≤ length before) (sym is-written) room-for;
           beyond =
               subst (λ (n : ℕ). drop n after ≡ drop n before) (sym is-written)

@@ -12,7 +12,8 @@ use Rattle.table.specs.declared.Verdict.{Verdict}
 use Rattle.table.proofs.Sound.{accepted-sound}
 use Rattle.translation.specs.Collapse.{collapsed}
 use Rattle.translation.specs.Pieces.{Piece, piecesOf, signsOf}
-use Rattle.translation.specs.Translate.{blankFollows, Result, made, refused as notMade, translateOn, handed, translation}
+use Rattle.translation.specs.Translate.{blankFollows, Result, made, refused as notMade, translateOn}
+use Rattle.translation.specs.Handed.{handed, translation}
 use Rattle.translation.specs.Promises.{Translated}
 use Rattle.translation.specs.declared.Translation.{Translation}
 use Rattle.translation.specs.declared.Translation.the-variants as t
@@ -20,7 +21,8 @@ use Rattle.translation.proofs.Outcomes.{Made, made-means}
 use Rattle.translation.proofs.Signs.{signs-printed}
 use Rattle.pages.specs.Words.{Item, itemsOf}
 use Rattle.pages.specs.Fitting.{Fitting}
-use Rattle.pages.specs.Fill.{sheetVerdict, bytesOf as bytesOfSigns, endOf, filling}
+use Rattle.pages.specs.Volume.{sheetVerdict, bytesOf as bytesOfSigns, endOf}
+use Rattle.pages.specs.Fill.{filling}
 use Rattle.pages.specs.Fill as Fill
 use Rattle.pages.specs.Promises.{Fills}
 use Rattle.pages.specs.declared.Filled.{Filled}
@@ -28,7 +30,8 @@ use Rattle.pages.specs.declared.Sheet.{Sheet}
 use Rattle.pages.proofs.Counts.{lines-are-64s, pages-are-65s}
 use Rattle.pages.proofs.Sizes.{sizes-of-accepted}
 use Rattle.pages.proofs.Words.{items-fit}
-use Rattle.layout.specs.Emboss.{Outcome, refused, done, roomed, laid, termsOf, embossFollowed, embossing, withPieces}
+use Rattle.layout.specs.Emboss.{Outcome, refused, done, roomed, laid, termsOf, embossFollowed, embossing}
+use Rattle.layout.specs.inside.Pieces.{withPieces}
 use Rattle.layout.specs.Promises.{Embossed}
 use Rattle.layout.specs.declared.Answer.the-variants.{Done, Refused}
 
@@ -60,8 +63,8 @@ module _ (image text : List ℕ) (sheet : Sheet) (out lent : List ℕ) where
         rw (made-pieces .pieces)
         (items-fit (omega arith) (signsOf (piecesOf (tableOf image) blankFollows text)) (signs-printed (tableOf image) (accepted-sound image (made-pieces .accepted)) blankFollows (collapsed text)))
 
-    page : 0 < sheet .length
-    page = let p = sizes-of-accepted sheet (made-pieces .allowed) .1 in omega arith
+    page-room : 0 < sheet .length
+    page-room = let p = sizes-of-accepted sheet (made-pieces .allowed) .1 in omega arith
 
     abbrev filled : Fill.Outcome
     filled = filling sheet (signsOf ps) out
@@ -72,7 +75,7 @@ module _ (image text : List ℕ) (sheet : Sheet) (out lent : List ℕ) where
       where
         go : (b : Bool) → leb (length (bytesOfSigns sheet (signsOf ps))) (length out) ≡ b
             → laid sheet out (made ps) ≡ record { answer = withPieces (length ps) (filled .answer); output = filled .output }
-        go true f = rw (made-pieces .allowed, filling, f, laid, roomed, Fill.roomed, lines-are-64s sheet items fits page, pages-are-65s sheet items fits page)
+        go true f = rw (made-pieces .allowed, filling, f, laid, roomed, Fill.roomed, lines-are-64s sheet items fits page-room, pages-are-65s sheet items fits page-room)
         go false f = rw (made-pieces .allowed, filling, f, laid, roomed, Fill.roomed)
 
   by-result : (x : Result) → result ≡ x → Case (handed lent x .answer) (handed lent x .signs)

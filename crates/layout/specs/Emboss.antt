@@ -15,10 +15,8 @@ use Rattle.translation.specs.Translate.{Result, made, refused as notMade, trans
 use Rattle.translation.specs.declared.Setting.{Setting}
 use Rattle.translation.specs.declared.Terms.{Terms}
 use Rattle.pages.specs.Numbers.{lineMark, pageMark}
-use Rattle.pages.specs.Pages.{count}
-use Rattle.pages.specs.Fill.{bytesOf as bytesOfSigns, sheetVerdict}
-use Rattle.pages.specs.declared.Filled.{Filled}
-use Rattle.pages.specs.declared.Filled.the-variants as Filled′
+use Rattle.table.specs.Search.{count}
+use Rattle.pages.specs.Volume.{bytesOf as bytesOfSigns, sheetVerdict}
 use Rattle.pages.specs.declared.Sheet.{Sheet}
 use Rattle.layout.specs.declared.Answer.{Answer}
 use Rattle.layout.specs.declared.Answer.the-variants.{Done, Refused}
@@ -89,9 +87,3 @@ embossFollowed setting image text sheet out = laid sheet out (translateOn (terms
 -- the call of the base: past the end of text stands the blank
 unfoldable pub embossing : List ℕ → List ℕ → Sheet → List ℕ → Outcome
 embossing image text sheet out = embossFollowed blankFollows image text sheet out
-
--- ---- The answer of laying out, with the count of pieces
-
-abbrev pub withPieces : ℕ → Filled → Answer
-withPieces n (Filled′.Done w l g) = Done w n l g
-withPieces n (Filled′.Refused r) = Refused r

@@ -3,7 +3,7 @@
 use Prim.Native.Nat.{ℕ}
 use mathlib.Core.List.{List}
 use mathlib.Core.Path.{_≡_}
-use Rattle.layout.specs.Emboss.{number, place, written, pieces, lines, pages, embossing}
+use Rattle.layout.specs.Emboss.{embossing}
 use Rattle.layout.specs.declared.Answer.{Answer}
 use Rattle.pages.specs.declared.Sheet.{Sheet}
 
@@ -12,21 +12,6 @@ pub record Embossed (image text : List ℕ) (sheet : Sheet) (before : List ℕ) 
   pub answers : answer ≡ embossing image text sheet before .answer
   pub leaves : after ≡ embossing image text sheet before .output
 
--- `Answer::number`, `place`, `written`, `pieces`, `lines`, `pages`: the six values
-pub record AnswerNumber (a : Answer) (value : ℕ) : Type 0 where
-  pub is : value ≡ number a
-
-pub record AnswerPlace (a : Answer) (value : ℕ) : Type 0 where
-  pub is : value ≡ place a
-
-pub record AnswerWritten (a : Answer) (value : ℕ) : Type 0 where
-  pub is : value ≡ written a
-
-pub record AnswerPieces (a : Answer) (value : ℕ) : Type 0 where
-  pub is : value ≡ pieces a
-
-pub record AnswerLines (a : Answer) (value : ℕ) : Type 0 where
-  pub is : value ≡ lines a
-
-pub record AnswerPages (a : Answer) (value : ℕ) : Type 0 where
-  pub is : value ≡ pages a
+-- `Answer::number`, `place`, `written`, `pieces`, `lines`, `pages`: each tells its value
+pub record Tells (value : Answer → ℕ) (a : Answer) (answer : ℕ) : Type 0 where
+  pub is : answer ≡ value a

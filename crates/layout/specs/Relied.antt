@@ -1,5 +1,5 @@
--- What a caller of the whole call may rely on, in the words of the three demands: of an image, a text, W, P, the bytes lent, the answer and the bytes
--- afterwards. proofs/Relied.antt shows each of whatever answer and bytes the promise of `emboss` allows.
+-- What a caller of the whole call may rely on, in the words of the three demands: of an image, a text, a sheet, the bytes lent, the answer and the
+-- bytes afterwards. proofs/Relied.antt shows each of whatever answer and bytes the promise of `emboss` allows.
 use Prim.Native.Nat.{ℕ, suc, _<_, _≤_}
 use mathlib.Core.Bool.{false}
 use mathlib.Core.List.{List, map, flatten}
@@ -52,7 +52,7 @@ pub record Untouched (before : List ℕ) (answer : Answer) (after : List ℕ) : 
 pub record Bounded (image : List ℕ) (sheet : Sheet) (before : List ℕ) (answer : Answer) (after : List ℕ) : Type 0 where
   pub accepted : verdictOf image ≡ Accepted
   pub width : Between leastWidth mostWidth (sheet .width)
-  pub page : Between leastLength mostLength (sheet .length)
+  pub page-length : Between leastLength mostLength (sheet .length)
   pub room : written answer ≤ length before
   pub beyond : drop (written answer) after ≡ drop (written answer) before
 

@@ -1,12 +1,14 @@
-// The six values of an answer: its number and place, the bytes written, the pieces, the lines and the pages. A refusal has the last four 0.
+// The six values of an answer: its number and place, the bytes written, the pieces, the lines and
+// the pages. A refusal has the last four 0.
 
-ghost use Rattle.layout.specs.Promises.{AnswerNumber, AnswerPlace, AnswerWritten, AnswerPieces, AnswerLines, AnswerPages};
+ghost use Rattle.layout.specs.Emboss.{number, place, written, pieces, lines, pages};
+ghost use Rattle.layout.specs.Promises.{Tells};
 use crate::Answer;
 
 impl Answer {
     // 0 where the call is done, and otherwise the paper's number of the refusal.
     pub fn number(self) -> u8
-        ensures { λ r. ⌜ AnswerNumber self r ⌝ }
+        ensures { λ r. ⌜ Tells number self r ⌝ }
     {
         match self {
             Answer::Done {
@@ -20,7 +22,7 @@ impl Answer {
     }
 
     pub fn place(self) -> usize
-        ensures { λ r. ⌜ AnswerPlace self r ⌝ }
+        ensures { λ r. ⌜ Tells place self r ⌝ }
     {
         match self {
             Answer::Done {
@@ -34,7 +36,7 @@ impl Answer {
     }
 
     pub fn written(self) -> usize
-        ensures { λ r. ⌜ AnswerWritten self r ⌝ }
+        ensures { λ r. ⌜ Tells written self r ⌝ }
     {
         match self {
             Answer::Done {
@@ -48,7 +50,7 @@ impl Answer {
     }
 
     pub fn pieces(self) -> usize
-        ensures { λ r. ⌜ AnswerPieces self r ⌝ }
+        ensures { λ r. ⌜ Tells pieces self r ⌝ }
     {
         match self {
             Answer::Done {
@@ -62,7 +64,7 @@ impl Answer {
     }
 
     pub fn lines(self) -> usize
-        ensures { λ r. ⌜ AnswerLines self r ⌝ }
+        ensures { λ r. ⌜ Tells lines self r ⌝ }
     {
         match self {
             Answer::Done {
@@ -76,7 +78,7 @@ impl Answer {
     }
 
     pub fn pages(self) -> usize
-        ensures { λ r. ⌜ AnswerPages self r ⌝ }
+        ensures { λ r. ⌜ Tells pages self r ⌝ }
     {
         match self {
             Answer::Done {

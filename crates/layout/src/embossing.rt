@@ -1,8 +1,9 @@
-// The whole of the paper in one call: a table image and a text in, cells in lines and pages out. Any image, text, sheet and output get their answer; a refused
-// call changes no byte, and a done one none beyond the bytes that it writes.
+// The whole of the paper in one call: a table image and a text in, cells in lines and pages out.
+// Any image, text, sheet and output get their answer; a refused call changes no byte, and a done
+// one none beyond the bytes that it writes.
 
 ghost use mathlib.Core.Path.{_≡_};
-ghost use Rattle.layout.specs.Emboss.{withPieces};
+ghost use Rattle.layout.specs.inside.Pieces.{withPieces};
 ghost use Rattle.layout.specs.Promises.{Embossed};
 use crate::Answer;
 use pages::Filled;
@@ -30,7 +31,8 @@ fn with_pieces(pieces: usize, filled: Filled) -> Answer
     }
 }
 
-// The checks are made in the paper's order: the table's, the sheet's, the text's, and last the room's.
+// The checks are made in the paper's order: the table's, the sheet's, the text's, and last the
+// room's.
 pub fn emboss(image: &[u8], text: &[u8], sheet: Sheet, out: &mut [u8]) -> Answer
     ensures { λ r. ⌜ Embossed (now (image .entry)) (now (text .entry)) sheet (now (out .entry)) r (now (out .exit)) ⌝ }
 {

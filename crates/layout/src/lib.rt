@@ -1,5 +1,5 @@
-// The whole call: a text is translated by a table, and its signs are laid out on sheets.
-// What each type means is said in specs/; this file has the types that the definitions and the calls share.
+// The whole call: a text is translated by a table, and its signs are laid out on sheets. What each
+// type means is said in specs/; this file has the types that the definitions and the calls share.
 
 mod answering;
 mod embossing;

@@ -14,7 +14,7 @@ use lib.ListN.{length, replicate, length-append, length-replicate, replicate-app
 use borrow.Author.Tests.{eq-eqb, ne-eqb, ltb-true, ltb-false}
 use lib.Seq.{sets}
 use Rattle.table.specs.Numbers.{blankCell}
-use Rattle.table.specs.Wrote.{Wrote}
+use Rattle.table.specs.inside.Wrote.{Wrote}
 use Rattle.table.proofs.Wrote.{put-then}
 use Rattle.pages.specs.Numbers.{gapBlanks, lineMark, pageMark}
 use Rattle.pages.specs.Words.{Item, word, lineEnd, emptyLine, paragraph, pageEnd, formatOf}

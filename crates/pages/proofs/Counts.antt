@@ -15,7 +15,7 @@ use Rattle.table.proofs.Lists.{all-append, all-replicate, all-weaker}
 use Rattle.pages.specs.Numbers.{lineMark, pageMark}
 use Rattle.pages.specs.Words.{Item}
 use Rattle.pages.specs.Place.{start, afterPage, afterCells, cellsAfter, volumeEnd, volume}
-use Rattle.pages.specs.Pages.{count}
+use Rattle.table.specs.Search.{count}
 use Rattle.pages.specs.Fitting.{WordFits, Fitting}
 use Rattle.pages.specs.Right.{IsCell}
 use Rattle.pages.specs.declared.Place.{Place}

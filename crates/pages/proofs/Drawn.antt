@@ -1,4 +1,4 @@
--- The spots of our layout are those of the bytes. The invariant: what the sheet has so far is drawn, and the place says where its line stands in the
+-- The spots of our layout are those of the bytes. The invariant: what the stack has so far is drawn, and the place says where its line stands in the
 -- volume. A word goes on the end of that line, so no word before it moves; an empty line at the end shows nothing.
 use Prim.Native.Nat.{ℕ, zero, suc, _+_, _-_, _≤_, _<_}
 use mathlib.Core.Bool.{Bool}
@@ -21,7 +21,7 @@ use Rattle.pages.specs.declared.Place.{Place}
 use Rattle.pages.proofs.Lists.{flatten-append}
 use Rattle.pages.proofs.Kept.{Kept, volume-keeps}
 use Rattle.pages.proofs.Counts.{cells-after}
-use Rattle.pages.proofs.Volume.{Stack, unmarked, fed, turned, read, reads, reads-append, reads-cells, nil-of-length, Standing, standing-kept, unmarked-standing, volume-sheet}
+use Rattle.pages.proofs.Volume.{Stack, unmarked, fed, turned, read, reads, reads-append, reads-cells, nil-of-length, Standing, standing-kept, unmarked-standing, volume-stack}
 use Rattle.pages.proofs.Words.{choices-keep-words, fitting-with-choices}
 use Rattle.pages.specs.declared.Sheet.{Sheet}
 
@@ -191,7 +191,7 @@ module _ (lines : List Line) (line : Line) (words : List (List ℕ)) (spots : Li
 
 -- ---- The whole volume
 
--- the lines of a sheet: those of its pages, those of the page that is being filled, and the line
+-- the lines of a stack: those of its pages, those of the page that is being filled, and the line
 abbrev stackLines : Stack → List Line
 stackLines s = flatten (s .pages) ++ s .lines ++ s .line ∷ []
 
@@ -248,7 +248,7 @@ pub spots-are-the-bytes : (sheet : Sheet) (items : List Item) → Fitting (sheet
 unfolding reads flatten
 spots-are-the-bytes sheet items fits room =
     let placed = volume-keeps sheet _ (placed-kept sheet) items fits room (record { standing = unmarked-standing sheet; drawn = nothing-drawn }) in
-    same-lines (λ l. sym (empty-at-end (volumeLines (volume sheet items)) l)) (rw (volume-sheet sheet items fits room, append-nil) at (placed .drawn))
+    same-lines (λ l. sym (empty-at-end (volumeLines (volume sheet items)) l)) (rw (volume-stack sheet items fits room, append-nil) at (placed .drawn))
 
 -- so are those of every layout by choices, of the same words
 pub choices-are-the-bytes : (sheet : Sheet) (items : List Item) → Fitting (sheet .width) items → 0 < sheet .length → (choices : List Bool)

@@ -27,7 +27,7 @@ pub record Going (sheet : Sheet) (signs out₀ out word : List ℕ) (p : Place) 
   pub same : length out ≡ length out₀
   pub modest : Modest (70 * i) p
   pub done : List ℕ
-  pub page : out ≡ sets out₀ 0 done
+  pub output : out ≡ sets out₀ 0 done
   pub written : p .written ≡ length done
   pub whole : done ++ restBytes sheet p (take n word) (drop i signs) ≡ volume sheet (itemsOf (sheet .width) signs)
 
@@ -50,7 +50,7 @@ module _ {sheet : Sheet} {signs out₀ : List ℕ} (z : Sized sheet signs out₀
         same = refl;
         modest = record { column-most = omega arith; line-most = omega arith; written-most = omega arith; lines-most = omega arith; pages-most = omega arith };
         done = [];
-        page = refl;
+        output = refl;
         written = refl;
         whole = refl;
       }
@@ -111,7 +111,7 @@ module _ {sheet : Sheet} {signs out₀ : List ℕ} (z : Sized sheet signs out₀
             same = ap length (s .wrote .leaves) ∙ length-sets out (p .written) bytes ∙ v .same;
             modest = rw e (Moves.modest-more (omega arith) (Gather.modest-step sheet (70 * i) n g p (omega arith) (v .modest)));
             done = v .done ++ bytes;
-            page = put-then out₀ out out′ 0 (v .done) bytes (v .page) (s .wrote .leaves) (omega arith);
+            output = put-then out₀ out out′ 0 (v .done) bytes (v .output) (s .wrote .leaves) (omega arith);
             written = let x = length-append (v .done) bytes in rw e (omega arith);
             whole =
                 rw (e, s .waits)
@@ -162,5 +162,5 @@ module _ {sheet : Sheet} {signs out₀ : List ℕ} (z : Sized sheet signs out₀
       pub whole-written : {out′ out″ : List ℕ} {q r : Place} → Moved out p cells out′ (afterFlush sheet p (length cells)) q
           → Moved out′ q [] out″ (afterFormat sheet q signPageEnd) r → out″ ≡ sets out₀ 0 (volume sheet (itemsOf (sheet .width) signs))
       whole-written {out′} {out″} s e =
-          put-then out₀ out out″ 0 (v .done) last (v .page) (Steps.both-wrote sheet p cells signPageEnd s e .leaves) (let a = v .written in omega arith)
+          put-then out₀ out out″ 0 (v .done) last (v .output) (Steps.both-wrote sheet p cells signPageEnd s e .leaves) (let a = v .written in omega arith)
           ∙ ap (λ (y : List ℕ). sets out₀ 0 y) (ap (λ (y : List ℕ). v .done ++ y) (sym rest) ∙ v .whole)

@@ -10,7 +10,7 @@ use Rattle.table.specs.declared.Refusal.the-variants.{Size}
 use Rattle.table.specs.declared.Verdict.the-variants.{Accepted, Refused as NotAccepted}
 use Rattle.table.proofs.Tests.{Tells, decided-by, fails-law, tells-and, tells-within}
 use Rattle.pages.specs.Numbers.{leastWidth, mostWidth, leastLength, mostLength}
-use Rattle.pages.specs.Fill.{sheetRight, sheetVerdict}
+use Rattle.pages.specs.Volume.{sheetRight, sheetVerdict}
 use Rattle.pages.specs.Refusals.{Outside, SizesWrong}
 use Rattle.pages.specs.declared.Sheet.{Sheet}
 

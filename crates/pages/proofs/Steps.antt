@@ -9,7 +9,7 @@ use native.Mathlib.Omega.{arith}
 use lib.ListN.{length, set, take, length-append}
 use lib.Seq.{sets, length-sets, take-suc-set}
 use borrow.Author.Tests.{eq-eqb, ne-eqb}
-use Rattle.table.specs.Wrote.{Wrote}
+use Rattle.table.specs.inside.Wrote.{Wrote}
 use Rattle.table.proofs.Wrote.{put-then}
 use Rattle.pages.specs.Place.{afterWord}
 use Rattle.pages.specs.inside.Gather.{Modest, afterFlush, flushBytes, afterFormat, formatBytes, wordBytes, stepped, waiting, stepBytes}

@@ -1,5 +1,6 @@
--- The pages of the bytes. Bytes are read one by one onto a sheet: the pages that have ended, the lines of the page that have, and the line that is
--- being filled. The invariant, kept by the moves: the sheet has the bytes, its lines and pages are right, and its sizes are those of the place.
+-- The pages of the bytes. Bytes are read one by one onto a stack: the pages that have ended, the
+-- lines of the page that have, and the line that is being filled. The invariant, kept by the moves:
+-- the stack has the bytes, its lines and pages are right, and its sizes are those of the place.
 use Prim.Native.Nat.{ℕ, _+_, _-_, _≤_, _<_}
 use mathlib.Core.Bool.{Bool, true, false}
 use mathlib.Core.List.{List, [], _∷_, _++_, append-assoc, append-nil, flatten}
@@ -15,7 +16,8 @@ use Rattle.table.proofs.Lists.{all-append, all-at}
 use Rattle.pages.specs.Numbers.{lineMark, pageMark}
 use Rattle.pages.specs.Words.{Item}
 use Rattle.pages.specs.Place.{start, afterPage, afterCells, cellsAfter, volumeEnd, volume}
-use Rattle.pages.specs.Pages.{Line, Page, bytesOfLines, bytesOfPages, pagesFrom, pagesOf, count}
+use Rattle.pages.specs.Pages.{Line, Page, bytesOfLines, bytesOfPages, pagesFrom, pagesOf}
+use Rattle.table.specs.Search.{count}
 use Rattle.pages.specs.Fitting.{WordFits, Fitting}
 use Rattle.pages.specs.Right.{IsCell, LineRight, PageRight}
 use Rattle.pages.specs.declared.Place.{Place}
@@ -229,10 +231,10 @@ module _ (sheet : Sheet) (items : List Item) (fits : Fitting (sheet .width) item
   unfolding reads
   ends = volume-ends sheet _ (standing-kept sheet) items fits room (unmarked-standing sheet)
 
-  -- the sheet of the volume: its pages, and nothing besides
-  pub volume-sheet : reads unmarked (volume sheet items) ≡ record { pages = pagesOf (volume sheet items); lines = []; line = [] }
+  -- the stack of the volume: its pages, and nothing besides
+  pub volume-stack : reads unmarked (volume sheet items) ≡ record { pages = pagesOf (volume sheet items); lines = []; line = [] }
   unfolding pagesOf
-  volume-sheet =
+  volume-stack =
       let st = read-standing in
       let end = ends in
       λ i.
@@ -243,7 +245,7 @@ module _ (sheet : Sheet) (items : List Item) (fits : Fitting (sheet .width) item
       }
 
   standing : Standing sheet bytes (record { pages = pagesOf bytes; lines = []; line = [] }) (volumeEnd sheet items)
-  standing = rw volume-sheet at read-standing
+  standing = rw volume-stack at read-standing
 
   -- the pages have the bytes
   pub pages-have-the-bytes : bytesOfPages (pagesOf (volume sheet items)) ≡ volume sheet items

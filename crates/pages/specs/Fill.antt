@@ -1,36 +1,16 @@
 -- 'Lines and pages' as one call, from signs, a sheet and the output as lent to the answer and the output afterwards; refusals 5 and 8.
 use Prim.Native.Nat.{ℕ}
-use mathlib.Core.Bool.{Bool, true, false, cond, _&&_}
+use mathlib.Core.Bool.{true, false}
 use mathlib.Core.List.{List, _++_}
 use lib.ListN.{length, drop}
 use lib.Dec.{leb}
-use Rattle.table.specs.Search.{within}
 use Rattle.table.specs.declared.Refusal.{Refusal}
-use Rattle.table.specs.declared.Refusal.the-variants.{Size, Room}
-use Rattle.table.specs.declared.Verdict.{Verdict}
+use Rattle.table.specs.declared.Refusal.the-variants.{Room}
 use Rattle.table.specs.declared.Verdict.the-variants.{Accepted, Refused as NotAccepted}
-use Rattle.pages.specs.Numbers.{leastWidth, mostWidth, leastLength, mostLength}
-use Rattle.pages.specs.Words.{itemsOf}
-use Rattle.pages.specs.Place.{volumeEnd, volume}
+use Rattle.pages.specs.Volume.{sheetVerdict, bytesOf, endOf}
 use Rattle.pages.specs.declared.Filled.{Filled}
 use Rattle.pages.specs.declared.Filled.the-variants.{Done, Refused}
-use Rattle.pages.specs.declared.Place.{Place}
 use Rattle.pages.specs.declared.Sheet.{Sheet}
-
--- W and P within their limits
-unfoldable pub sheetRight : Sheet → Bool
-sheetRight sheet = within leastWidth mostWidth (sheet .width) && within leastLength mostLength (sheet .length)
-
--- 5: W or P outside its limits
-unfoldable pub sheetVerdict : Sheet → Verdict
-sheetVerdict sheet = cond (sheetRight sheet) Accepted (NotAccepted Size)
-
--- the bytes of signs, and the place at their end
-unfoldable pub bytesOf : Sheet → List ℕ → List ℕ
-bytesOf sheet signs = volume sheet (itemsOf (sheet .width) signs)
-
-unfoldable pub endOf : Sheet → List ℕ → Place
-endOf sheet signs = volumeEnd sheet (itemsOf (sheet .width) signs)
 
 -- ---- What the call hands back: the answer, and the output afterwards
 

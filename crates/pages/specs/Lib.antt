@@ -1,6 +1,7 @@
 pub mod Numbers
 pub mod Words
 pub mod Place
+pub mod Volume
 pub mod Fill
 pub mod Promises
 pub mod Refusals

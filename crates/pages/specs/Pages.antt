@@ -1,5 +1,5 @@
 -- 'Output bytes': pages as lists of lines, a line as a list of cells, and their bytes.
-use Prim.Native.Nat.{ℕ, suc}
+use Prim.Native.Nat.{ℕ}
 use mathlib.Core.Bool.{true, false}
 use mathlib.Core.List.{List, [], _∷_, _++_}
 use lib.Dec.{eqb}
@@ -33,9 +33,3 @@ pagesFrom lines line (b ∷ bytes) =
 
 unfoldable pub pagesOf : List ℕ → List Page
 pagesOf bytes = pagesFrom [] [] bytes
-
--- ---- How many bytes of a list are `b`: lines are 64s, and pages 65s
-
-unfoldable pub count : ℕ → List ℕ → ℕ
-count b [] = 0
-count b (x ∷ bytes) = elim (eqb x b) [ true ↦ suc (count b bytes) | false ↦ count b bytes ]

@@ -5,7 +5,8 @@ use mathlib.Core.List.{List}
 use mathlib.Core.Path.{_≡_}
 use lib.ListN.{take}
 use Rattle.table.specs.declared.Verdict.{Verdict}
-use Rattle.pages.specs.Fill.{sheetVerdict, filling}
+use Rattle.pages.specs.Volume.{sheetVerdict}
+use Rattle.pages.specs.Fill.{filling}
 use Rattle.pages.specs.declared.Filled.{Filled}
 use Rattle.pages.specs.declared.Sheet.{Sheet}
 

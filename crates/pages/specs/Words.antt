@@ -1,5 +1,5 @@
--- 'Lines and pages': the words and format signs that signs make, and a word that is wider than the line, cut into parts. The signs are those that
--- pieces print: 64 has become 0 there, and 99 is gone.
+-- 'Lines and pages': the words and format signs that signs make, and a word that is wider than the line, cut into parts. Of the signs that
+-- pieces print 64 has become 0, and 99 is gone; any other sign is a cell.
 use Prim.Native.Nat.{ℕ, zero, suc}
 use mathlib.Core.Bool.{true, false, cond}
 use mathlib.Core.List.{List, [], _∷_, _++_, map}

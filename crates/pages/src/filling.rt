@@ -1,4 +1,5 @@
-// The pages of signs: the place alone is moved through them first, which gives the bytes needed; only where these have room are they written.
+// The pages of signs: the place alone is moved through them first, which gives the bytes needed;
+// only where these have room are they written.
 
 ghost use mathlib.Core.Path.{_≡_};
 ghost use lib.ListN.{take};
@@ -40,8 +41,9 @@ fn fill_accepted(signs: &[u8], sheet: Sheet, out: &mut [u8]) -> Filled
     Filled::Refused(Refusal::Room(needed))
 }
 
-// Lays the first `n` signs out on sheets: the refusal, or how many bytes, lines and pages there are. The bytes stand at the front of `out`; what lies beyond
-// them, and all of `out` where it is refused, is as it was.
+// Lays the first `n` signs out on sheets: the refusal, or how many bytes, lines and pages there
+// are. The bytes stand at the front of `out`; what lies beyond them, and all of `out` where it is
+// refused, is as it was.
 pub fn fill(signs: &[u8; 65536], n: usize, sheet: Sheet, out: &mut [u8]) -> Filled
     ensures { λ r. ⌜ Fills (now (signs .entry)) n sheet (now (out .entry)) r (now (out .exit)) ⌝ }
 {

@@ -1,5 +1,6 @@
-// Signs to words, and words to lines and pages: the place on the page, its moves, and the pages that are written.
-// What each type means is said in specs/; this file has the types that the definitions and the calls share.
+// Signs to words, and words to lines and pages: the place on the page, its moves, and the pages
+// that are written. What each type means is said in specs/; this file has the types that the
+// definitions and the calls share.
 
 mod filling;
 mod measuring;
@@ -16,8 +17,9 @@ pub struct Sheet {
     pub length: usize,
 }
 
-// A place on the page: the cells of the line that is being filled, the lines that the page has, whether the next word opens a paragraph,
-// and what has been written so far, in bytes, lines and pages.
+// A place on the page: the cells of the line that is being filled, the lines that the page has,
+// whether the next word opens a paragraph, and what has been written so far, in bytes, lines and
+// pages.
 pub struct Place {
     pub column: usize,
     pub line: usize,
@@ -27,7 +29,8 @@ pub struct Place {
     pub pages: usize,
 }
 
-// How far the gathering of signs has come: the place, and how many cells of a word wait to be placed.
+// How far the gathering of signs has come: the place, and how many cells of a word wait to be
+// placed.
 struct Gathering {
     place: Place,
     cells: usize,

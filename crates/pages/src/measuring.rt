@@ -1,4 +1,5 @@
-// The pass of the place alone: sign by sign, without writing. It gives the place at the end of the text, and with it the bytes that are needed.
+// The pass of the place alone: sign by sign, without writing. It gives the place at the end of the
+// text, and with it the bytes that are needed.
 
 ghost use mathlib.Core.Path.{_≡_};
 ghost use Prim.Native.Nat.{_*_, _<_, _≤_, _^_};
@@ -61,7 +62,7 @@ fn step(p: Place, n: usize, g: u8, sheet: Sheet) -> Gathering
     }
 }
 
-// The place at the end of the text, for the signs of a text.
+// The place at the end of the signs.
 pub(crate) fn measure(signs: &[u8], sheet: Sheet) -> Place
     requires { ⌜ (length (now signs) ≤ entrySigns * mostText) × (1 ≤ sheet .width) × (sheet .width ≤ mostWidth) ⌝ }
     ensures { λ r. ⌜ r ≡ volumeEnd sheet (itemsOf (sheet .width) (now (signs .entry))) ⌝ }

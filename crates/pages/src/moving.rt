@@ -1,4 +1,5 @@
-// The place on the page and its moves. A place is a value: each move takes it and hands the moved place back, and writes nothing.
+// The place on the page and its moves. A place is a value: each move takes it and hands the moved
+// place back, and writes nothing.
 
 ghost use mathlib.Core.Path.{_≡_};
 ghost use Prim.Native.Nat.{_<_, _^_};
@@ -87,7 +88,8 @@ impl Place {
         }
     }
 
-    // A word of `n` cells: on a line with cells it joins if it fits, otherwise the line ends and it starts the next.
+    // A word of `n` cells: on a line with cells it joins if it fits, otherwise the line ends and it
+    // starts the next.
     pub(crate) fn word(self, sheet: Sheet, n: usize) -> Place
         requires { ⌜ (Modest (2 ^ 32) self) × (n < 2 ^ 32) ⌝ }
         ensures { λ r. ⌜ r ≡ afterWord sheet self n ⌝ }

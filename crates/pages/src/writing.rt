@@ -1,12 +1,14 @@
-// The pass that writes. What a move writes follows from the place before it, the place after it and the cells of the word that it places; so the moves of the
-// place alone decide, and one function writes them all. What is written stands from the place's own number on, and everything else stays as it was.
+// The pass that writes. What a move writes follows from the place before it, the place after it and
+// the cells of the word that it places; so the moves of the place alone decide, and one function
+// writes them all. What is written stands from the place's own number on, and everything else stays
+// as it was.
 
 ghost use mathlib.Core.Path.{_≡_};
 ghost use Prim.Native.Nat.{_+_, _*_, _<_, _≤_, _^_};
 ghost use mathlib.Core.List.{[]};
 ghost use lib.ListN.{length, replicate, take};
 ghost use Rattle.table.specs.Numbers.{entrySigns, mostText};
-ghost use Rattle.table.specs.Wrote.{Wrote};
+ghost use Rattle.table.specs.inside.Wrote.{Wrote};
 ghost use Rattle.pages.specs.Numbers.{mostWidth};
 ghost use Rattle.pages.specs.Words.{itemsOf};
 ghost use Rattle.pages.specs.Place.{afterWord, standing, moveBytes, volume};
@@ -50,7 +52,8 @@ fn standing(p: Place, q: Place) -> usize
     if q.lines == p.lines { p.column } else { 0 }
 }
 
-// A move from `p` to `q`: a 64 for each line that ended, a 65 for each page, the blanks and the cells.
+// A move from `p` to `q`: a 64 for each line that ended, a 65 for each page, the blanks and the
+// cells.
 fn put_move(out: &mut [u8], p: Place, q: Place, cells: &[u8])
     requires { ⌜ Goes p q (length (now cells)) × (p .written + length (moveBytes p q (now cells)) ≤ length (now out)) ⌝ }
     ensures { λ _. ⌜ Wrote (now (out .entry)) (p .written) (moveBytes p q (now (cells .entry))) (now (out .exit)) ⌝ }
@@ -93,7 +96,8 @@ fn put_format(out: &mut [u8], p: Place, g: u8, sheet: Sheet) -> Place
     q
 }
 
-// One sign: a blank or a format sign places the cells that wait in front of `word`; a cell waits with them, until they are as many as the width.
+// One sign: a blank or a format sign places the cells that wait in front of `word`; a cell waits
+// with them, until they are as many as the width.
 fn put_sign(out: &mut [u8], p: Place, word: &mut [u8], n: usize, g: u8, sheet: Sheet) -> Gathering
     requires { ⌜ (Room (2 ^ 31) (now out) p (stepBytes sheet p (take n (now word)) g)) × (n < sheet .width) × (sheet .width ≤ mostWidth) × (sheet .width ≤ length (now word)) ⌝ }
     ensures { λ r. ⌜ Signed sheet (now (out .entry)) p (now (word .entry)) n g (now (out .exit)) (now (word .exit)) r ⌝ }
@@ -112,7 +116,7 @@ fn put_sign(out: &mut [u8], p: Place, word: &mut [u8], n: usize, g: u8, sheet: S
     Gathering { place: p, cells: m }
 }
 
-// All signs of a text are written, and the end of the text.
+// All signs are written, and the end of the text.
 pub(crate) fn write(signs: &[u8], sheet: Sheet, out: &mut [u8])
     requires { ⌜ (length (now signs) ≤ entrySigns * mostText) × (1 ≤ sheet .width) × (sheet .width ≤ mostWidth) × (length (volume sheet (itemsOf (sheet .width) (now signs))) ≤ length (now out)) ⌝ }
     ensures { λ _. ⌜ Wrote (now (out .entry)) 0 (volume sheet (itemsOf (sheet .width) (now (signs .entry)))) (now (out .exit)) ⌝ }

@@ -1,12 +1,13 @@
-// The whole call for programs in other languages: `rt staticlib press` writes an archive that defines it under its plain name. A slice crosses as its
-// address, never null, and its length; bytes that are lent as `out` or `answer` are lent as nothing else in the same call.
+// The whole call for programs in other languages: `rt staticlib press` writes an archive that
+// defines it under its plain name. A slice crosses as its address, never null, and its length;
+// bytes that are lent as `out` or `answer` are lent as nothing else in the same call.
 
 ghost use Rattle.press.specs.Promises.{Pressed};
 use layout::emboss;
 use pages::Sheet;
 
-// Embosses a text, and stores the answer's six values: number, place, bytes written, pieces, lines, pages. A refused call changes no byte of `out`, and a
-// done one none beyond the bytes written.
+// Embosses a text, and stores the answer's six values: number, place, bytes written, pieces, lines,
+// pages. A refused call changes no byte of `out`, and a done one none beyond the bytes written.
 #[no_mangle]
 pub extern "C" fn tlopahuexi_emboss(
     image: &[u8],

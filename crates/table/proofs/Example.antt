@@ -7,11 +7,12 @@ use mathlib.Core.Option.{none, some}
 use lib.ListN.{length, set, take}
 use lib.Seq.{sets}
 use Rattle.table.specs.Cells.{cellOf}
-use Rattle.table.specs.Computing.{computing}
+use Rattle.table.specs.inside.Computing.{computing}
 use Rattle.table.specs.Sections.{distance}
 use Rattle.table.specs.Table.{tableOf}
 use Rattle.table.specs.Grouping.{firstBreak}
-use Rattle.table.specs.Verdict.{verdictOf, verdictNumber, verdictPlace}
+use Rattle.table.specs.Verdict.{verdictOf}
+use Rattle.table.specs.Refusals.{verdictNumber, verdictPlace}
 use Rattle.table.specs.Example.{image, table, ascii}
 use Rattle.table.specs.declared.Verdict.the-variants.{Accepted}
 

@@ -6,7 +6,7 @@ use mathlib.Core.Path.{_≡_, sym, _∙_, subst, subst₂}
 use native.Mathlib.Decide.{decLt}
 use native.Mathlib.Omega.{arith}
 use Rattle.table.specs.Numbers.{numberDone}
-use Rattle.table.specs.Answers.{FirstLine}
+use Rattle.table.specs.FirstLine.{FirstLine}
 
 module _ (Line : ℕ → ℕ → ℕ → Type 0) where
   -- no line holds before this turn

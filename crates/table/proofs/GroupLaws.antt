@@ -14,7 +14,8 @@ use lib.Seq.{drop-cons, take-all}
 use borrow.Author.Tests.{eq-eqb, ne-eqb, lt-ltb, le-ltb}
 use Rattle.table.specs.Search.{first, isThere, listOf}
 use Rattle.table.specs.Table.{Entry, entryAt, tableIn}
-use Rattle.table.specs.Grouping.{Agree, stringOf, Breaks, agreement, breaksAt}
+use Rattle.table.specs.Grouping.{stringOf, agreement, breaksAt}
+use Rattle.table.specs.Grouped.{Agree, Breaks}
 use Rattle.table.specs.Verdict.{strings}
 use Rattle.table.specs.declared.Sections.{Sections}
 use Rattle.table.proofs.Search.{first-missing, first-is-not}

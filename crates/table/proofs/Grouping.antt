@@ -12,7 +12,8 @@ use lib.Dec.{ltb, eqb}
 use lib.ListN.{length, take}
 use borrow.Author.Tests.{ltb-true, ltb-false, eqb-true, eqb-false}
 use Rattle.table.specs.Search.{first, isThere}
-use Rattle.table.specs.Grouping.{Agree, stringOf, Violated, Breaks, Grouped, FirstToBreak, agreement, breaksAt, firstBreak}
+use Rattle.table.specs.Grouping.{stringOf, agreement, breaksAt, firstBreak}
+use Rattle.table.specs.Grouped.{Agree, Violated, Breaks, Grouped, FirstToBreak}
 use Rattle.table.proofs.Search.{first-found, first-missing}
 
 -- ---- Agreement

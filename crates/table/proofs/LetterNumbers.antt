@@ -16,7 +16,7 @@ use Rattle.table.specs.Search.{first, member}
 use Rattle.table.specs.Sections.{recordByte}
 use Rattle.table.specs.Records.{symbols, rightStringByte}
 use Rattle.table.specs.Refusals.{symbolOf, InAlphabet}
-use Rattle.table.specs.Judging.{numberOf, letterNumber, Gathered, LettersBySymbol, rightCharacter}
+use Rattle.table.specs.inside.Judging.{numberOf, letterNumber, Gathered, LettersBySymbol, rightCharacter}
 use Rattle.table.specs.declared.Section.{Section}
 use Rattle.table.specs.declared.Sections.{Sections}
 use Rattle.table.proofs.Tests.{Tells, same-tests, tells-not}

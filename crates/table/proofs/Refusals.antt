@@ -8,11 +8,14 @@ use mathlib.Core.Option.{Option, none, some}
 use mathlib.Core.Path.{_≡_, refl, sym, _∙_, subst}
 use native.Mathlib.Omega.{arith}
 use Rattle.table.specs.Numbers.{blank, numberDone}
-use Rattle.table.specs.Answers.{refusalNumber, refusalPlace, FirstLine}
+use Rattle.table.specs.Answers.{refusalNumber, refusalPlace}
+use Rattle.table.specs.FirstLine.{FirstLine}
 use Rattle.table.specs.Sections.{sectionsIn}
 use Rattle.table.specs.Records.{Wrong, firstWrong}
-use Rattle.table.specs.Grouping.{Grouped, firstBreak}
-use Rattle.table.specs.Verdict.{verdictNumber, verdictPlace, groupingVerdict, blankVerdict, recordsVerdict, verdictOf}
+use Rattle.table.specs.Grouping.{firstBreak}
+use Rattle.table.specs.Grouped.{Grouped}
+use Rattle.table.specs.Verdict.{groupingVerdict, blankVerdict, recordsVerdict, verdictOf}
+use Rattle.table.specs.Refusals.{verdictNumber, verdictPlace}
 use Rattle.table.specs.Refusals.{FrameRight, InAlphabet, RecordsRight, stringsIn, Refusal1, Refusal2, Refusal3, Refusal4, tableLines, Line, line-1, line-2, line-3, line-4}
 use Rattle.table.specs.declared.Sections.{Sections}
 use Rattle.table.specs.declared.Refusal.{Refusal}

@@ -6,7 +6,7 @@ use mathlib.Core.Path.{_≡_, refl, _∙_, ap, subst}
 use native.Mathlib.Decide.{ℕ-discrete, decLt}
 use native.Mathlib.Omega.{arith}
 use Rattle.table.specs.Search.{firstFrom}
-use Rattle.table.specs.Found.{found}
+use Rattle.table.specs.inside.Found.{found}
 use Rattle.table.specs.declared.Found.the-variants.{At, Nothing}
 
 -- `k` is the first of the `n` numbers from `i` on that passes

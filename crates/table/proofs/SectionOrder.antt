@@ -23,8 +23,8 @@ use Rattle.table.specs.Records.{
   imageOrder,
 }
 use Rattle.table.specs.Refusals.{sectionsBefore}
-use Rattle.table.specs.Found.{found}
-use Rattle.table.specs.Judging.{nameAt, wrongAt, foundWrong}
+use Rattle.table.specs.inside.Found.{found}
+use Rattle.table.specs.inside.Judging.{nameAt, wrongAt, foundWrong}
 use Rattle.table.specs.declared.Sections.{Sections}
 use Rattle.table.specs.declared.Found.the-variants.{At as FoundAt, Nothing}
 use Rattle.table.specs.declared.records.WrongRecord.the-variants.{At}

@@ -12,8 +12,9 @@ use Rattle.table.specs.Sections.{sectionsOf, offset, recordByte, recordP
 use Rattle.table.specs.Numbers.{stringByte, signsByte, entrySigns, contextSize, blank}
 use Rattle.table.specs.Records.{alphabet, contractions, contexts, transitions, decisions, sectionNamed}
 use Rattle.table.specs.Refusals.{IsClass, IsEntrySign, IsTransition, IsDecision, IsCondition, ContextExists, symbolOf, InAlphabet, RecordsRight}
-use Rattle.table.specs.Table.{Letter, HasLetter, letterAt, entryAt, contextAt, transitionAt, columnAt, tableIn, tableOf}
-use Rattle.table.specs.Grouping.{Grouped}
+use Rattle.table.specs.Table.{Letter, letterAt, entryAt, contextAt, transitionAt, columnAt, tableIn, tableOf}
+use Rattle.table.specs.Refusals.{HasLetter}
+use Rattle.table.specs.Grouped.{Grouped}
 use Rattle.table.specs.Verdict.{strings, verdictOf}
 use Rattle.table.specs.Laid.{SectionsLaid}
 use Rattle.table.specs.Sound.{EachOf, SoundLetter, SoundEntry, SoundContext, SoundTransition, SoundColumn, Sound}

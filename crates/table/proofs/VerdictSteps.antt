@@ -15,8 +15,8 @@ use Rattle.table.specs.Table.{tableIn}
 use Rattle.table.specs.Grouping.{firstBreak}
 use Rattle.table.specs.Verdict.{strings, groupingVerdict, blankVerdict, recordsVerdict}
 use Rattle.table.specs.Refusals.{sectionsBefore}
-use Rattle.table.specs.Found.{found}
-use Rattle.table.specs.Judging.{letterNumber, nameAt, foundWrong}
+use Rattle.table.specs.inside.Found.{found}
+use Rattle.table.specs.inside.Judging.{letterNumber, nameAt, foundWrong}
 use Rattle.table.specs.declared.Sections.{Sections}
 use Rattle.table.specs.declared.Refusal.the-variants.{Record, NoBlank, Grouping}
 use Rattle.table.specs.declared.Verdict.the-variants.{Accepted, Refused}

@@ -7,7 +7,7 @@ use native.Mathlib.Numerals.{add-one}
 use native.Mathlib.Omega.{arith}
 use lib.ListN.{length, getD, set, take, replicate, length-replicate, replicate-append-replicate}
 use lib.Seq.{sets, length-sets, take-suc, length-take-le}
-use Rattle.table.specs.Wrote.{Wrote}
+use Rattle.table.specs.inside.Wrote.{Wrote}
 
 pub sets-append : (l : List ℕ) (i : ℕ) (xs ys : List ℕ) → sets (sets l i xs) (i + length xs) ys ≡ sets l i (xs ++ ys)
 sets-append l i [] ys = ap (λ (k : ℕ). sets l k ys) (add-zero i)

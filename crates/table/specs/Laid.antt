@@ -4,22 +4,7 @@ use Prim.Native.Nat.{ℕ, _+_, _≤_, _<_}
 use mathlib.Core.List.{List}
 use mathlib.Core.Path.{_≡_}
 use lib.ListN.{length}
-use Rattle.table.specs.Numbers.{
-  leastClasses,
-  mostClasses,
-  mostVariables,
-  letterSize,
-  leastLetters,
-  mostLetters,
-  entrySize,
-  leastEntries,
-  mostEntries,
-  contextSize,
-  leastContexts,
-  mostContexts,
-  leastColumns,
-  mostColumns,
-}
+use Rattle.table.specs.Numbers.{leastClasses, mostClasses, mostVariables, letterSize, leastLetters, mostLetters, entrySize, leastEntries, mostEntries, contextSize, leastContexts, mostContexts, leastColumns, mostColumns}
 use Rattle.table.specs.Sections.{offset}
 use Rattle.table.specs.Refusals.{Between}
 use Rattle.table.specs.declared.Section.{Section}

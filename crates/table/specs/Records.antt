@@ -5,40 +5,7 @@ use mathlib.Core.List.{List, [], _∷_, _++_}
 use mathlib.Core.Option.{Option, none, some, Option·getD}
 use lib.ListN.{length, getD, take}
 use lib.Dec.{leb, ltb, eqb}
-use Rattle.table.specs.Numbers.{
-  otherBlank,
-  noCell,
-  signLineEnd,
-  signPageEnd,
-  symbolByte,
-  letterClassByte,
-  letterSignByte,
-  lengthByte,
-  stringByte,
-  contextByte,
-  entryClassByte,
-  shiftByte,
-  signsByte,
-  entrySigns,
-  leastLength,
-  mostLength,
-  padding,
-  noContext,
-  leastShift,
-  leastSymbol,
-  mostSymbol,
-  bar,
-  leastClass,
-  contextSize,
-  turnNo,
-  turnYes,
-  turnOther,
-  accepts,
-  rejects,
-  byteYes,
-  byteNo,
-  dash,
-}
+use Rattle.table.specs.Numbers.{otherBlank, noCell, signLineEnd, signPageEnd, symbolByte, letterClassByte, letterSignByte, lengthByte, stringByte, contextByte, entryClassByte, shiftByte, signsByte, entrySigns, leastLength, mostLength, padding, noContext, leastShift, leastSymbol, mostSymbol, bar, leastClass, contextSize, turnNo, turnYes, turnOther, accepts, rejects, byteYes, byteNo, dash}
 use Rattle.table.specs.Search.{within, first, isThere, listOf, member}
 use Rattle.table.specs.Sections.{recordByte}
 use Rattle.table.specs.declared.Section.{Section}

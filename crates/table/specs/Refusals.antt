@@ -5,71 +5,17 @@ use Prim.Native.Nat.{ℕ, _+_, _-_, _*_, _≤_, _<_}
 use mathlib.Core.List.{List}
 use mathlib.Core.Logic.{_⊎_}
 use mathlib.Core.Path.{_≡_}
-use lib.ListN.{length}
-use Rattle.table.specs.Numbers.{
-  otherBlank,
-  noCell,
-  signLineEnd,
-  signPageEnd,
-  trailerSize,
-  firstMarkByte,
-  secondMarkByte,
-  firstMark,
-  secondMark,
-  leastClasses,
-  mostClasses,
-  mostVariables,
-  letterSize,
-  leastLetters,
-  mostLetters,
-  entrySize,
-  leastEntries,
-  mostEntries,
-  contextSize,
-  leastContexts,
-  mostContexts,
-  leastColumns,
-  mostColumns,
-  leastClass,
-  symbolByte,
-  letterClassByte,
-  letterSignByte,
-  lengthByte,
-  stringByte,
-  contextByte,
-  entryClassByte,
-  shiftByte,
-  signsByte,
-  leastLength,
-  mostLength,
-  padding,
-  noContext,
-  leastShift,
-  entrySigns,
-  leastSymbol,
-  mostSymbol,
-  blank,
-  bar,
-  turnNo,
-  turnYes,
-  turnOther,
-  accepts,
-  rejects,
-  byteYes,
-  byteNo,
-  dash,
-  numberFrame,
-  numberRecord,
-  numberNoBlank,
-  numberGrouping,
-  noPlace,
-}
+use lib.ListN.{length, getD}
+use Rattle.table.specs.Numbers.{otherBlank, noCell, signLineEnd, signPageEnd, trailerSize, firstMarkByte, secondMarkByte, firstMark, secondMark, leastClasses, mostClasses, mostVariables, letterSize, leastLetters, mostLetters, entrySize, leastEntries, mostEntries, contextSize, leastContexts, mostContexts, leastColumns, mostColumns, leastClass, symbolByte, letterClassByte, letterSignByte, lengthByte, stringByte, contextByte, entryClassByte, shiftByte, signsByte, leastLength, mostLength, padding, noContext, leastShift, entrySigns, leastSymbol, mostSymbol, blank, bar, turnNo, turnYes, turnOther, accepts, rejects, byteYes, byteNo, dash, numberDone, numberFrame, numberRecord, numberNoBlank, numberGrouping, noPlace}
 use Rattle.table.specs.Sections.{byteAt, trailerAt, distance, classesIn, variablesIn, sectionsIn, offset, recordByte}
 use Rattle.table.specs.Records.{SectionName, alphabet, contractions, contexts, transitions, decisions, sectionNamed}
-use Rattle.table.specs.Table.{tableIn}
-use Rattle.table.specs.Grouping.{FirstToBreak}
+use Rattle.table.specs.Table.{Letter, tableIn}
+use Rattle.table.specs.Grouped.{FirstToBreak}
 use Rattle.table.specs.Verdict.{strings}
+use Rattle.table.specs.Answers.{refusalNumber, refusalPlace}
 use Rattle.table.specs.declared.Sections.{Sections}
+use Rattle.table.specs.declared.Verdict.{Verdict}
+use Rattle.table.specs.declared.Verdict.the-variants.{Accepted, Refused}
 
 -- `n` is one of `least` to `most`
 pub record Between (least most n : ℕ) : Type 0 where
@@ -252,3 +198,21 @@ pub data Line (image : List ℕ) : ℕ → ℕ → ℕ → Type 0 where
   line-3 : Refusal3 image → Line image 3 numberNoBlank noPlace
   -- grouping broken: offset of the first record that breaks it
   line-4 : {at : ℕ} → Refusal4 image at → Line image 4 numberGrouping at
+
+-- ---- The number and the place of a verdict
+
+abbrev pub verdictNumber : Verdict → ℕ
+verdictNumber Accepted = numberDone
+verdictNumber (Refused r) = refusalNumber r
+
+abbrev pub verdictPlace : Verdict → ℕ
+verdictPlace Accepted = noPlace
+verdictPlace (Refused r) = refusalPlace r
+
+-- ---- The alphabet of a table
+
+-- `c` has an alphabet record, whatever stands for one that is missing
+pub record HasLetter (letters : List Letter) (c : ℕ) : Type 0 where
+  pub at : ℕ
+  pub there : at < length letters
+  pub same : (d : Letter) → getD letters at d .symbol ≡ c

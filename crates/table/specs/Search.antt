@@ -1,4 +1,4 @@
--- What the definitions of all crates share: a range, a first place that passes a test, a list by its places, a member. No heading of document 01.
+-- What the definitions of all crates share: a range, a first place that passes a test, a list by its places, a member and how often it stands there. No heading of document 01.
 use Prim.Native.Nat.{ℕ, zero, suc}
 use mathlib.Core.Bool.{Bool, true, false, not, _&&_, _||_}
 use mathlib.Core.List.{List, [], _∷_}
@@ -40,3 +40,8 @@ member c (x ∷ xs) = eqb x c || member c xs
 -- every number below `n` passes the test
 abbrev pub every : (ℕ → Bool) → ℕ → Bool
 every test n = not (isThere (first (λ k. not (test k)) n))
+
+-- how often `c` stands in the list
+unfoldable pub count : ℕ → List ℕ → ℕ
+count c [] = 0
+count c (x ∷ xs) = elim (eqb x c) [ true ↦ suc (count c xs) | false ↦ count c xs ]

@@ -4,31 +4,7 @@ use mathlib.Core.Bool.{Bool, true, false, _&&_}
 use mathlib.Core.List.{List}
 use lib.ListN.{length, getD, take, drop}
 use lib.Dec.{leb, eqb}
-use Rattle.table.specs.Numbers.{
-  trailerSize,
-  distanceSize,
-  lowByteRoom,
-  classesByte,
-  variablesByte,
-  firstMarkByte,
-  secondMarkByte,
-  firstMark,
-  secondMark,
-  leastClasses,
-  mostClasses,
-  mostVariables,
-  letterSize,
-  leastLetters,
-  mostLetters,
-  entrySize,
-  leastEntries,
-  mostEntries,
-  contextSize,
-  leastContexts,
-  mostContexts,
-  leastColumns,
-  mostColumns,
-}
+use Rattle.table.specs.Numbers.{trailerSize, distanceSize, lowByteRoom, classesByte, variablesByte, firstMarkByte, secondMarkByte, firstMark, secondMark, leastClasses, mostClasses, mostVariables, letterSize, leastLetters, mostLetters, entrySize, leastEntries, mostEntries, contextSize, leastContexts, mostContexts, leastColumns, mostColumns}
 use Rattle.table.specs.Search.{within}
 use Rattle.table.specs.declared.Section.{Section}
 use Rattle.table.specs.declared.Sections.{Sections}

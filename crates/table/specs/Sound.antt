@@ -4,32 +4,11 @@ use Prim.Native.Nat.{ℕ, _≤_, _<_}
 use mathlib.Core.List.{List}
 use mathlib.Core.Path.{_≡_}
 use lib.ListN.{length, getD}
-use Rattle.table.specs.Numbers.{
-  noCell,
-  leastClasses,
-  mostClasses,
-  mostVariables,
-  leastLetters,
-  mostLetters,
-  mostEntries,
-  contextSize,
-  mostContexts,
-  mostColumns,
-  leastClass,
-  leastLength,
-  mostLength,
-  noContext,
-  leastShift,
-  entrySigns,
-  leastSymbol,
-  mostSymbol,
-  blank,
-  bar,
-}
-use Rattle.table.specs.Table.{Letter, HasLetter, Entry, Column, Table}
-use Rattle.table.specs.Grouping.{Grouped}
+use Rattle.table.specs.Numbers.{noCell, leastClasses, mostClasses, mostVariables, leastLetters, mostLetters, mostEntries, contextSize, mostContexts, mostColumns, leastClass, leastLength, mostLength, noContext, leastShift, entrySigns, leastSymbol, mostSymbol, blank, bar}
+use Rattle.table.specs.Table.{Letter, Entry, Column, Table}
+use Rattle.table.specs.Refusals.{HasLetter, Between, IsLetterSign, IsEntrySign, IsTransition, IsDecision, IsCondition}
+use Rattle.table.specs.Grouped.{Grouped}
 use Rattle.table.specs.Verdict.{strings}
-use Rattle.table.specs.Refusals.{Between, IsLetterSign, IsEntrySign, IsTransition, IsDecision, IsCondition}
 
 -- whatever stands for an element that is missing, each element is so
 abbrev pub EachOf : {A : Type 0} → (A → Type 0) → List A → Type 0

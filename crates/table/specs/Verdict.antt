@@ -1,10 +1,9 @@
--- 'What comes back', answers 0 to 4: the verdict on a table image, its number and its place.
+-- 'What comes back', answers 0 to 4: the verdict on a table image. The checks are made in the paper's order: the frame, the records, the blank, the grouping.
 use Prim.Native.Nat.{ℕ}
 use mathlib.Core.Bool.{true, false}
 use mathlib.Core.List.{List, map}
 use mathlib.Core.Option.{none, some}
-use Rattle.table.specs.Numbers.{blank, numberDone, noPlace}
-use Rattle.table.specs.Answers.{refusalNumber, refusalPlace}
+use Rattle.table.specs.Numbers.{blank}
 use Rattle.table.specs.Search.{member}
 use Rattle.table.specs.Sections.{frameRight, sectionsIn, offset}
 use Rattle.table.specs.Records.{symbols, firstWrong, sectionNamed}
@@ -14,18 +13,6 @@ use Rattle.table.specs.declared.Sections.{Sections}
 use Rattle.table.specs.declared.Refusal.the-variants.{Frame, Record, NoBlank, Grouping}
 use Rattle.table.specs.declared.Verdict.{Verdict}
 use Rattle.table.specs.declared.Verdict.the-variants.{Accepted, Refused}
-
--- ---- Each case's number and place
-
-abbrev pub verdictNumber : Verdict → ℕ
-verdictNumber Accepted = numberDone
-verdictNumber (Refused r) = refusalNumber r
-
-abbrev pub verdictPlace : Verdict → ℕ
-verdictPlace Accepted = noPlace
-verdictPlace (Refused r) = refusalPlace r
-
--- ---- The checks, in the paper's order: the frame, the records, the blank, the grouping
 
 unfoldable pub strings : Table → List (List ℕ)
 strings table = map (λ (e : Entry). e .string) (table .entries)

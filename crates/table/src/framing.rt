@@ -1,5 +1,6 @@
-// The frame of an image: its trailer, the five distances, and the sections that they give. An image whose frame is wrong has no sections: all of
-// its numbers are 0, so that a caller sees by the number of classes whether the frame is right.
+// The frame of an image: its trailer, the five distances, and the sections that they give. An image
+// whose frame is wrong has no sections: all of its numbers are 0, so that a caller sees by the
+// number of classes whether the frame is right.
 
 ghost use mathlib.Core.Path.{_≡_};
 ghost use mathlib.Core.Bool.{true};
@@ -61,7 +62,8 @@ fn distances_right(image: &[u8]) -> bool
     (d0 == image.len() - TRAILER) & (d1 <= d0) & (d2 <= d1) & (d3 <= d2) & (d4 <= d3)
 }
 
-// The section from distance `d` to distance `e` before a trailer at `at`, in records of `size` bytes.
+// The section from distance `d` to distance `e` before a trailer at `at`, in records of `size`
+// bytes.
 fn section_of(at: usize, d: usize, e: usize, size: u16) -> Section
     requires { ⌜ (e ≤ d) × (d ≤ at) × (at < 65536) × (0 < size) ⌝ }
     ensures { λ r. ⌜ r ≡ record { start = at - d; size = size; records = (d - e) / size } ⌝ }

@@ -1,5 +1,7 @@
-// The first contraction record that breaks the grouping. From a record the walk goes back only through the records that share as much with it as the one
-// just before it: where no earlier record breaks the grouping, none beyond them shares more. The strings are read where they lie, without their padding.
+// The first contraction record that breaks the grouping. From a record the walk goes back only
+// through the records that share as much with it as the one just before it: where no earlier record
+// breaks the grouping, none beyond them shares more. The strings are read where they lie, without
+// their padding.
 
 ghost use mathlib.Core.Bool.{false};
 ghost use mathlib.Core.Path.{_≡_};
@@ -7,13 +9,14 @@ ghost use Prim.Native.Nat.{ℕ, _<_};
 ghost use Rattle.table.specs.Table.{entryAt, tableIn};
 ghost use Rattle.table.specs.Grouping.{agreement, breaksAt, firstBreak};
 ghost use Rattle.table.specs.Verdict.{strings};
-ghost use Rattle.table.specs.Found.{found};
+ghost use Rattle.table.specs.inside.Found.{found};
 use crate::Found;
 use crate::Sections;
 use crate::read::offset_of;
 use crate::read::record_byte;
 
-// The string of contraction record `k`. The record's first byte says how many characters follow it; where the image ends sooner, so does the string.
+// The string of contraction record `k`. The record's first byte says how many characters follow it;
+// where the image ends sooner, so does the string.
 fn string_of(image: &[u8], s: Sections, k: u16) -> &[u8]
     ensures { λ r. ⌜ now r ≡ entryAt (now (image .entry)) s k .string ⌝ }
 {
@@ -47,7 +50,8 @@ fn agreement_of(a: &[u8], b: &[u8]) -> usize
     i
 }
 
-// Whether record `r` breaks the grouping, where no record before it does: whether one on the walk back shares more with it than the one just before it.
+// Whether record `r` breaks the grouping, where no record before it does: whether one on the walk
+// back shares more with it than the one just before it.
 fn breaks_at(image: &[u8], s: Sections, r: u16) -> bool
     requires { ⌜ (0 < r) × (r < s .contractions .records) × ((k : ℕ) → k < r → breaksAt (strings (tableIn (now image) s)) k ≡ false) ⌝ }
     ensures { λ b. ⌜ b ≡ breaksAt (strings (tableIn (now (image .entry)) s)) r ⌝ }

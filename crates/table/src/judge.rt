@@ -34,7 +34,8 @@ fn judged(image: &[u8], s: Sections) -> Verdict
     }
 }
 
-// The verdict on any image, by its sections: accepted, or the first thing that is wrong with it, and where.
+// The verdict on any image, by its sections: accepted, or the first thing that is wrong with it,
+// and where.
 pub(crate) fn verdict_on(image: &[u8], s: Sections) -> Verdict
     requires { ⌜ Located (now image) s ⌝ }
     ensures { λ r. ⌜ Checked (now (image .entry)) r ⌝ }

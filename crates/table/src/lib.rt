@@ -1,5 +1,7 @@
-// A contraction table's stored image: where its five sections lie, what is wrong with it, if anything, and its records, read where they lie.
-// No function has to be asked with care: each answers for every image and every index. What each answer means is said in specs/.
+// A contraction table's stored image: where its five sections lie, what is wrong with it, if
+// anything, and its records, read where they lie; and the refusals of every call. No function has
+// to be asked with care: each answers for every image and every index. What each answer means is
+// said in specs/.
 
 mod framing;
 mod groups;
@@ -14,14 +16,16 @@ pub use opening::open;
 pub use read::record_byte;
 pub use read::record_part;
 
-// One section of the image: the offset of its first byte, the bytes of one record, and how many records it has.
+// One section of the image: the offset of its first byte, the bytes of one record, and how many
+// records it has.
 pub struct Section {
     pub start: u16,
     pub size: u16,
     pub records: u16,
 }
 
-// The five sections of an image, in the order in which they lie, and the two numbers of the trailer.
+// The five sections of an image, in the order in which they lie, and the two numbers of the
+// trailer.
 pub struct Sections {
     pub alphabet: Section,
     pub contractions: Section,
@@ -32,7 +36,8 @@ pub struct Sections {
     pub variables: u16,
 }
 
-// Why a call is refused, whichever it is: the paper's table of refusals, each with its place where that isn't fixed.
+// Why a call is refused, whichever it is: the paper's table of refusals, each with its place where
+// that isn't fixed.
 pub enum Refusal {
     Frame,
     Record(usize),

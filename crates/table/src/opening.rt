@@ -1,6 +1,7 @@
-// An image is opened once: its sections are found, it is judged by them, and a reader holds both beside the image as it was lent. What goes through a reader
-// is straight and proved by hand, since the borrow checker covers no function over a struct that holds a reference; the work is done by functions on the
-// image and its sections.
+// An image is opened once: its sections are found, it is judged by them, and a reader holds both
+// beside the image as it was lent. What goes through a reader is straight and proved by hand, since
+// the borrow checker covers no function over a struct that holds a reference; the work is done by
+// functions on the image and its sections.
 
 ghost use Rattle.table.specs.Promises.{Checked, Reads, ReaderVerdict};
 use crate::Reader;

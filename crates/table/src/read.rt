@@ -1,5 +1,6 @@
-// Readers: single bytes and parts of records, read out of the lent image by a section and the numbers of a record and a byte. The numbers are so
-// narrow that no offset overflows; outside the image a byte is 0 and a part is empty.
+// Readers: single bytes and parts of records, read out of the lent image by a section and the
+// numbers of a record and a byte. The numbers are so narrow that no offset overflows; outside the
+// image a byte is 0 and a part is empty.
 
 ghost use mathlib.Core.Path.{_≡_};
 ghost use Prim.Native.Nat.{_<_, _^_};
@@ -24,7 +25,8 @@ pub fn record_byte(image: &[u8], s: Section, k: u16, j: u16) -> u8
     if at < image.len() { image[at] } else { 0 }
 }
 
-// The `n` bytes from byte `j` of record `k` of a section on, or nothing where they don't all lie within the image.
+// The `n` bytes from byte `j` of record `k` of a section on, or nothing where they don't all lie
+// within the image.
 pub fn record_part(image: &[u8], s: Section, k: u16, j: u16, n: u16) -> &[u8]
     ensures { λ r. ⌜ RecordPart (now (image .entry)) s k j n (now r) ⌝ }
 {

@@ -1,5 +1,6 @@
-// Right records: each kind of record is judged as specs/Records.antt has it, and the first wrong one is found in image order. The alphabet's symbols are
-// gathered once, so that a character is looked up in one step.
+// Right records: each kind of record is judged as specs/Records.antt has it, and the first wrong
+// one is found in image order. The alphabet's symbols are gathered once, so that a character is
+// looked up in one step.
 
 ghost use mathlib.Core.Path.{_≡_};
 ghost use Prim.Native.Nat.{_+_, _<_};
@@ -7,14 +8,15 @@ ghost use Rattle.table.specs.Numbers.{leastClass, stringByte, mostLength
 ghost use Rattle.table.specs.Search.{within, first, every};
 ghost use Rattle.table.specs.Sections.{recordByte};
 ghost use Rattle.table.specs.Records.{rightSymbol, rightLetterSign, rightEntrySign, rightSignAfter, rightCondition, letterRule, entryRule, decisionRule, rightRecord, sectionNamed, firstWrong};
-ghost use Rattle.table.specs.Found.{found};
-ghost use Rattle.table.specs.Judging.{LettersBySymbol, rightByte, rightCharacter, nameAt, rightAt, wrongAt, foundWrong};
+ghost use Rattle.table.specs.inside.Found.{found};
+ghost use Rattle.table.specs.inside.Judging.{LettersBySymbol, rightByte, rightCharacter, nameAt, rightAt, wrongAt, foundWrong};
 use crate::Found;
 use crate::Section;
 use crate::Sections;
 use crate::read::record_byte;
 
-// What the bytes of a part may be, where all of them go by one rule: classes up to a number, or the letters of transitions, decisions and conditions.
+// What the bytes of a part may be, where all of them go by one rule: classes up to a number, or the
+// letters of transitions, decisions and conditions.
 pub(crate) enum Kind {
     Class(u16),
     Transition,
@@ -28,7 +30,8 @@ pub(crate) enum WrongRecord {
     AllRight,
 }
 
-// For each byte the number, from 1, of the first alphabet record that has it for its symbol, and 0 where none has.
+// For each byte the number, from 1, of the first alphabet record that has it for its symbol, and 0
+// where none has.
 pub(crate) fn letters_by_symbol(image: &[u8], s: Sections) -> [u16; 256]
     ensures { λ r. ⌜ LettersBySymbol (now (image .entry)) (s .alphabet) r ⌝ }
 {
@@ -144,7 +147,8 @@ fn string_right(image: &[u8], contractions: Section, letters: &[u16; 256], k: u1
     true
 }
 
-// Whether alphabet record `k` is right. Its symbol is not that of an earlier record where the number by its symbol is its own.
+// Whether alphabet record `k` is right. Its symbol is not that of an earlier record where the
+// number by its symbol is its own.
 fn letter_right(image: &[u8], s: Sections, letters: &[u16; 256], k: u16) -> bool
     requires { ⌜ LettersBySymbol (now image) (s .alphabet) (now letters) × (k < s .alphabet .records) ⌝ }
     ensures { λ r. ⌜ r ≡ rightRecord (letterRule (now (image .entry)) s k) ⌝ }

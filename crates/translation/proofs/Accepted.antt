@@ -7,7 +7,7 @@ use Rattle.table.specs.Sections.{sectionsOf}
 use Rattle.table.specs.Verdict.{verdictOf}
 use Rattle.table.specs.declared.Verdict.the-variants.{Accepted}
 use Rattle.table.proofs.Reading.{accepted-laid, accepted-right}
-use Rattle.translation.specs.Opened.{Opened}
+use Rattle.translation.specs.inside.Opened.{Opened}
 
 pub accepted-opened : (image : List ℕ) → verdictOf image ≡ Accepted → Opened image (sectionsOf image)
 accepted-opened image e = record { laid = accepted-laid image e; right = accepted-right image e }

@@ -10,7 +10,8 @@ use lib.Dec.{eqb, ltb}
 use lib.ListN.{length, getD}
 use borrow.Author.Tests.{eqb-false}
 use Rattle.table.specs.Numbers.{bar, blank}
-use Rattle.table.specs.Table.{Letter, HasLetter}
+use Rattle.table.specs.Table.{Letter}
+use Rattle.table.specs.Refusals.{HasLetter}
 use Rattle.table.proofs.Tests.{decided-by}
 use Rattle.translation.specs.Numbers.{keptBlanks}
 use Rattle.translation.specs.Collapse.{unfed, unbarred, keptAfter, thinned, collapsed}

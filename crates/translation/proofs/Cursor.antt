@@ -12,9 +12,9 @@ use Rattle.table.specs.declared.Sections.{Sections}
 use Rattle.table.proofs.Sound.{sound-entries}
 use Rattle.translation.specs.Decide.{States, startStates, moved}
 use Rattle.translation.specs.Pieces.{Piece, frontPiece, piecesFrom, piecesIn, printed, signsOf}
-use Rattle.translation.specs.Opened.{Opened}
-use Rattle.translation.specs.States.{statesIn}
-use Rattle.translation.specs.Inside.{WroteUntil, MadeAs, Consumed}
+use Rattle.translation.specs.inside.Opened.{Opened}
+use Rattle.translation.specs.inside.States.{statesIn}
+use Rattle.translation.specs.inside.Making.{WroteUntil, MadeAs, Consumed}
 use Rattle.translation.specs.declared.Setting.{Setting}
 use Rattle.translation.specs.declared.variables.States.{States as Held}
 use Rattle.translation.specs.declared.piecing.Piece.{Piece as MadePiece}

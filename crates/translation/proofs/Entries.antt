@@ -20,7 +20,7 @@ use Rattle.table.proofs.Reading.{contexts-long, part-long, part-within, part-at
 use Rattle.table.proofs.Sound.{sound-entry}
 use Rattle.translation.specs.Decide.{States, decided}
 use Rattle.translation.specs.Choose.{begins, classAfter, contextHolds, admissible, noEntry, entry}
-use Rattle.translation.specs.Opened.{Opened}
+use Rattle.translation.specs.inside.Opened.{Opened}
 use Rattle.translation.specs.declared.Setting.{Setting}
 use Rattle.translation.proofs.Rests.{begins-differs}
 

@@ -12,7 +12,7 @@ use Rattle.table.specs.Example.{table, ascii, anEntry, aColumn}
 use Rattle.translation.specs.Collapse.{collapsed}
 use Rattle.translation.specs.Letters.{firstUnknown}
 use Rattle.translation.specs.Pieces.{Piece, characters, piecesOf, signsOf}
-use Rattle.translation.specs.Computing.{computing}
+use Rattle.translation.specs.inside.Computing.{computing}
 use Rattle.translation.specs.declared.Setting.{Setting}
 
 abbrev blankFollows : Setting

@@ -15,7 +15,7 @@ use Rattle.translation.specs.Letters.{letterFor}
 use Rattle.translation.specs.Decide.{States}
 use Rattle.translation.specs.Choose.{noEntry, choice}
 use Rattle.translation.specs.Pieces.{Piece, pieceBy, frontPiece}
-use Rattle.translation.specs.Inside.{MadeByEntry, MadeByLetter, MadeAs}
+use Rattle.translation.specs.inside.Making.{MadeByEntry, MadeByLetter, MadeAs}
 use Rattle.translation.specs.declared.Setting.{Setting}
 use Rattle.translation.specs.declared.piecing.Piece.{Piece as MadePiece}
 

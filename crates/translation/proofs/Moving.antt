@@ -15,7 +15,7 @@ use Rattle.table.specs.declared.Sections.{Sections}
 use Rattle.table.proofs.Reading.{transitions-long}
 use Rattle.table.proofs.Lists.{length-listOf, getD-listOf}
 use Rattle.translation.specs.Decide.{state, startStates, byteOfClass, turned, moved}
-use Rattle.translation.specs.States.{statesIn}
+use Rattle.translation.specs.inside.States.{statesIn}
 use Rattle.translation.specs.declared.variables.States.{States as Held}
 
 -- ---- One variable after another

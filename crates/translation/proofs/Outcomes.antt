@@ -16,8 +16,9 @@ use Rattle.table.specs.declared.Verdict.the-variants.{Accepted, Refused as NotA
 use Rattle.table.specs.Numbers.{mostText}
 use Rattle.translation.specs.Letters.{firstUnknown}
 use Rattle.translation.specs.Pieces.{Piece, piecesOf}
-use Rattle.translation.specs.Inside.{Consumed}
-use Rattle.translation.specs.Translate.{Result, made, refused, translateBy, translateAlso, translateOn, handed, Ends}
+use Rattle.translation.specs.inside.Making.{Consumed}
+use Rattle.translation.specs.Translate.{Result, made, refused, translateBy, translateOn}
+use Rattle.translation.specs.Handed.{handed, Ends}
 use Rattle.translation.specs.declared.Setting.{Setting}
 use Rattle.translation.specs.declared.Terms.{Terms}
 use Rattle.translation.specs.declared.Translation.{Translation}
@@ -48,12 +49,12 @@ module _ (terms : Terms) (image text : List ℕ) where
   table-refused r e = rw (e, translateOn)
 
   pub also-refused : (r : Refusal) → verdictOf image ≡ Accepted → terms .also ≡ NotAccepted r → translateOn terms image text ≡ refused r
-  unfolding translateOn translateAlso
-  also-refused r e f = rw (e, translateOn) (rw (f, translateAlso))
+  unfolding translateOn
+  also-refused r e f = rw (e, translateOn, f)
 
   pub goes-on : verdictOf image ≡ Accepted → terms .also ≡ Accepted → translateOn terms image text ≡ translateBy (tableOf image) (terms .setting) text
-  unfolding translateOn translateAlso
-  goes-on e f = rw (e, translateOn) (rw (f, translateAlso))
+  unfolding translateOn
+  goes-on e f = rw (e, translateOn, f)
 
   -- pieces are made only where nothing is refused
   pub record Made (ps : List Piece) : Type 0 where

@@ -12,7 +12,7 @@ use lib.Seq.{drop-cons}
 use borrow.Author.Tests.{eq-eqb, ne-eqb}
 use Rattle.table.specs.Numbers.{blankCell, otherBlank, noCell}
 use Rattle.translation.specs.Pieces.{printed}
-use Rattle.translation.specs.Inside.{WroteUntil}
+use Rattle.translation.specs.inside.Making.{WroteUntil}
 use Rattle.translation.proofs.Signs.{printed-at-most}
 use Rattle.translation.proofs.Writing.{wrote-nothing, wrote-then}
 

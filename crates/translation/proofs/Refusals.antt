@@ -11,7 +11,8 @@ use lib.ListN.{length, getD}
 use borrow.Author.Tests.{eqb-true, eq-eqb}
 use Rattle.table.specs.Numbers.{bar}
 use Rattle.table.specs.Search.{first, isThere}
-use Rattle.table.specs.Table.{Letter, HasLetter, Table}
+use Rattle.table.specs.Table.{Letter, Table}
+use Rattle.table.specs.Refusals.{HasLetter}
 use Rattle.table.specs.Sound.{Sound}
 use Rattle.table.proofs.Lists.{getD-there}
 use Rattle.table.proofs.Search.{first-found, first-missing, first-is, first-is-not}

@@ -11,7 +11,7 @@ use lib.Seq.{drop-cons}
 use borrow.Author.Tests.{eq-eqb, ne-eqb, lt-ltb, le-ltb}
 use Rattle.table.specs.Numbers.{bar, blank}
 use Rattle.translation.specs.Collapse.{unfed, unbarred, keptAfter, thinned, collapsed}
-use Rattle.translation.specs.Inside.{Thins, WroteUntil}
+use Rattle.translation.specs.inside.Making.{Thins, WroteUntil}
 use Rattle.translation.specs.Numbers.{keptBlanks}
 use Rattle.translation.specs.declared.collapsing.Run.{Run}
 use Rattle.translation.proofs.Writing.{wrote-nothing, wrote-one, wrote-then}

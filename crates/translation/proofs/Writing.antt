@@ -8,7 +8,7 @@ use native.Mathlib.Omega.{arith}
 use lib.ListN.{length, take, drop, set, length-append}
 use lib.Seq.{length-sets, sets-eq, take-at}
 use Rattle.table.proofs.Wrote.{put-then}
-use Rattle.translation.specs.Inside.{WroteUntil}
+use Rattle.translation.specs.inside.Making.{WroteUntil}
 
 pub wrote-nothing : (before : List ℕ) (n : ℕ) → n ≤ length before → WroteUntil before n [] before n
 wrote-nothing before n l = record { bytes = record { leaves = refl }; place = omega arith; room = l }

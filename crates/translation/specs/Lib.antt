@@ -4,13 +4,11 @@ pub mod Letters
 pub mod Decide
 pub mod Choose
 pub mod Pieces
-pub mod Opened
-pub mod States
-pub mod Inside
 pub mod Translate
+pub mod Handed
 pub mod Promises
 pub mod Refusals
 pub mod Admissible
 pub mod Chosen
 pub mod Moved
-pub mod Computing
+pub mod inside

@@ -4,7 +4,7 @@ use Prim.Native.Nat.{ℕ}
 use mathlib.Core.List.{List}
 use mathlib.Core.Path.{_≡_}
 use Rattle.table.specs.declared.Verdict.{Verdict}
-use Rattle.translation.specs.Translate.{translation}
+use Rattle.translation.specs.Handed.{translation}
 use Rattle.translation.specs.declared.Translation.{Translation}
 
 -- `translate`: the answer of the definitions, and their signs in the buffer that was lent. `also` is what the caller's own checks say

@@ -4,7 +4,8 @@ use mathlib.Core.List.{List}
 use mathlib.Core.Logic.{_≢_}
 use lib.ListN.{length, getD}
 use Rattle.table.specs.Numbers.{bar, mostText}
-use Rattle.table.specs.Table.{Letter, HasLetter}
+use Rattle.table.specs.Table.{Letter}
+use Rattle.table.specs.Refusals.{HasLetter}
 use Rattle.translation.specs.Collapse.{unfed}
 
 -- 6: text over 16,384 bytes

@@ -1,13 +1,14 @@
-// The alphabet: which record has a symbol, the class and the sign of a symbol, and the first character of a text that has no record.
+// The alphabet: which record has a symbol, the class and the sign of a symbol, and the first
+// character of a text that has no record.
 
 ghost use mathlib.Core.Path.{_≡_};
 ghost use Prim.Native.Nat.{_≤_};
 ghost use lib.ListN.{length};
 ghost use Rattle.table.specs.Table.{tableIn};
-ghost use Rattle.table.specs.Found.{found};
+ghost use Rattle.table.specs.inside.Found.{found};
 ghost use Rattle.table.specs.Numbers.{mostText};
 ghost use Rattle.translation.specs.Letters.{letterOf, letterFor, classOf, isUnknown, firstUnknown};
-ghost use Rattle.translation.specs.Opened.{Opened};
+ghost use Rattle.translation.specs.inside.Opened.{Opened};
 use crate::collapsing;
 use table::Found;
 use table::Sections;

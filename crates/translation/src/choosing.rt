@@ -1,5 +1,6 @@
-// The choice of entry at a place of the text. Every function here that looks at the text is handed the rest of it from that place on, and knows nothing
-// of what lies before it. Entries are read where they lie, and of each its first character before anything else.
+// The choice of entry at a place of the text. Every function here that looks at the text is handed
+// the rest of it from that place on, and knows nothing of what lies before it. Entries are read
+// where they lie, and of each its first character before anything else.
 
 ghost use mathlib.Core.Path.{_≡_};
 ghost use Prim.Native.Nat.{_+_, _≤_, _<_};
@@ -8,11 +9,11 @@ ghost use Rattle.table.specs.Numbers.{entrySize, lengthByte, stringByte, leastL
 ghost use Rattle.table.specs.Search.{member};
 ghost use Rattle.table.specs.Sections.{offset, recordByte, recordPart};
 ghost use Rattle.table.specs.Table.{tableIn, entryAt};
-ghost use Rattle.table.specs.Found.{found};
+ghost use Rattle.table.specs.inside.Found.{found};
 ghost use Rattle.table.specs.Refusals.{Between};
 ghost use Rattle.translation.specs.Choose.{begins, classAfter, contextHolds, admissible, entry, choice};
-ghost use Rattle.translation.specs.Opened.{Opened};
-ghost use Rattle.translation.specs.States.{statesIn};
+ghost use Rattle.translation.specs.inside.Opened.{Opened};
+ghost use Rattle.translation.specs.inside.States.{statesIn};
 use crate::Setting;
 use crate::alphabet::class_of;
 use crate::deciding::decide;
@@ -49,7 +50,8 @@ fn begins(image: &[u8], entries: Section, k: u16, rest: &[u8]) -> bool
     starts(table::record_part(image, entries, k, 1, n), rest)
 }
 
-// The class of the character after the first `n` of the rest; past the end of text, of the symbol that follows it.
+// The class of the character after the first `n` of the rest; past the end of text, of the symbol
+// that follows it.
 fn class_after(image: &[u8], s: Sections, setting: Setting, rest: &[u8], n: usize) -> u8
     requires { ⌜ Opened (now image) s ⌝ }
     ensures { λ r. ⌜ r ≡ classAfter (tableIn (now (image .entry)) s) setting (now (rest .entry)) n ⌝ }
@@ -74,7 +76,8 @@ fn holds(c: u8, classes: &[u8]) -> bool
     false
 }
 
-// Whether the right context of entry `k` is none or holds the class of the character after the entry's string.
+// Whether the right context of entry `k` is none or holds the class of the character after the
+// entry's string.
 fn context_holds(image: &[u8], s: Sections, setting: Setting, k: u16, rest: &[u8]) -> bool
     requires { ⌜ Opened (now image) s ⌝ }
     requires { ⌜ k < s .contractions .records ⌝ }
@@ -94,7 +97,8 @@ fn context_holds(image: &[u8], s: Sections, setting: Setting, k: u16, rest: &[u8
     )
 }
 
-// Whether entry `k` is admissible: its whole string begins the rest, its right context holds, and the decision table accepts its class.
+// Whether entry `k` is admissible: its whole string begins the rest, its right context holds, and
+// the decision table accepts its class.
 fn admits(image: &[u8], s: Sections, setting: Setting, states: States, k: u16, rest: &[u8]) -> bool
     requires { ⌜ Opened (now image) s ⌝ }
     requires { ⌜ k < s .contractions .records ⌝ }
@@ -111,7 +115,8 @@ fn admits(image: &[u8], s: Sections, setting: Setting, states: States, k: u16, r
     decide(image, s, states, table::record_byte(image, entries, k, 12))
 }
 
-// The first admissible entry in table order. Of each entry its first character is looked at before anything else: `at` is where it lies.
+// The first admissible entry in table order. Of each entry its first character is looked at before
+// anything else: `at` is where it lies.
 pub(crate) fn search(
     image: &[u8],
     s: Sections,

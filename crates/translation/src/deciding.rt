@@ -7,8 +7,8 @@ ghost use Rattle.table.specs.Numbers.{dash};
 ghost use Rattle.table.specs.Sections.{offset, recordPart};
 ghost use Rattle.table.specs.Table.{tableIn, columnAt};
 ghost use Rattle.translation.specs.Decide.{state, byteOfClass, conditionHolds, conditionsHold, ruling, decided};
-ghost use Rattle.translation.specs.Opened.{Opened};
-ghost use Rattle.translation.specs.States.{statesIn, said};
+ghost use Rattle.translation.specs.inside.Opened.{Opened};
+ghost use Rattle.translation.specs.inside.States.{statesIn, said};
 use crate::variables::States;
 use table::Section;
 use table::Sections;
@@ -27,7 +27,8 @@ fn place_of(c: u8) -> u16
     if c == 0 { 0 } else { (c - 1) as u16 }
 }
 
-// The byte of a class in a record that begins with a byte for each class, a hyphen where it has none.
+// The byte of a class in a record that begins with a byte for each class, a hyphen where it has
+// none.
 pub(crate) fn byte_of_class(image: &[u8], section: Section, k: u16, classes: u16, c: u8) -> u8
     requires { ⌜ offset section k + classes ≤ length (now image) ⌝ }
     ensures { λ r. ⌜ r ≡ byteOfClass (recordPart (now (image .entry)) section k 0 classes) c ⌝ }

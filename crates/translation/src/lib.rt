@@ -1,5 +1,6 @@
-// Translation of a text by a table: collapsing, the choice of entry, the states, the pieces and their signs.
-// What each type means is said in specs/; this file has the types that the definitions and the calls share.
+// Translation of a text by a table: collapsing, the choice of entry, the states, the pieces and
+// their signs. What each type means is said in specs/; this file has the types that the definitions
+// and the calls share.
 
 mod alphabet;
 mod choosing;
@@ -13,12 +14,14 @@ use table::Refusal;
 use table::Verdict;
 pub use translating::translate;
 
-// What a translation is told besides the table and the text: the symbol that follows the end of the text.
+// What a translation is told besides the table and the text: the symbol that follows the end of the
+// text.
 pub struct Setting {
     pub following: u8,
 }
 
-// On which terms a text is translated: its setting, and what the caller's own checks say, which come after the table's and before the text's.
+// On which terms a text is translated: its setting, and what the caller's own checks say, which
+// come after the table's and before the text's.
 pub struct Terms {
     pub setting: Setting,
     pub also: Verdict,

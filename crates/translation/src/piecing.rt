@@ -1,4 +1,5 @@
-// The pieces of a collapsed text, front to back: each is made at the front of the rest, prints its signs, takes its characters and moves the states.
+// The pieces of a collapsed text, front to back: each is made at the front of the rest, prints its
+// signs, takes its characters and moves the states.
 
 ghost use mathlib.Core.Path.{_≡_};
 ghost use mathlib.Core.Bool.{cond};
@@ -10,9 +11,9 @@ ghost use Rattle.table.specs.Numbers.{entrySigns, otherBlank, blankCell};
 ghost use Rattle.table.specs.Table.{tableIn, entryAt};
 ghost use Rattle.translation.specs.Letters.{letterFor};
 ghost use Rattle.translation.specs.Pieces.{printed, frontPiece, piecesIn};
-ghost use Rattle.translation.specs.Opened.{Opened};
-ghost use Rattle.translation.specs.States.{statesIn};
-ghost use Rattle.translation.specs.Inside.{WroteUntil, MadeByEntry, MadeByLetter, MadeAs, Consumed};
+ghost use Rattle.translation.specs.inside.Opened.{Opened};
+ghost use Rattle.translation.specs.inside.States.{statesIn};
+ghost use Rattle.translation.specs.inside.Making.{WroteUntil, MadeByEntry, MadeByLetter, MadeAs, Consumed};
 use crate::Setting;
 use crate::alphabet::class_of;
 use crate::alphabet::sign_of;
@@ -98,7 +99,8 @@ fn by_letter(image: &[u8], s: Sections, c: u8, signs: &mut [u8], at: usize) -> P
     }
 }
 
-// The piece at the front of the rest: by the first admissible entry, or by the character alone where there is none.
+// The piece at the front of the rest: by the first admissible entry, or by the character alone
+// where there is none.
 fn front_piece(
     image: &[u8],
     s: Sections,

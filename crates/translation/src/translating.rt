@@ -1,12 +1,14 @@
-// The whole call: the table is opened, once, and judged, then the text, and then the text is collapsed and its pieces print their signs.
+// A text by a table: the table is opened, once, and judged, then come the caller's own checks and
+// the text's; then the text is collapsed and its pieces print their signs.
 
 ghost use Prim.Native.Nat.{_*_, _≤_};
 ghost use lib.ListN.{length};
 ghost use Rattle.table.specs.Numbers.{entrySigns, mostText};
 ghost use Rattle.table.specs.Promises.{Located, Checked, Reads};
 ghost use Rattle.table.specs.Table.{tableIn};
-ghost use Rattle.translation.specs.Opened.{Opened};
-ghost use Rattle.translation.specs.Translate.{Ends, handed, translateBy, translateOn};
+ghost use Rattle.translation.specs.inside.Opened.{Opened};
+ghost use Rattle.translation.specs.Translate.{translateBy, translateOn};
+ghost use Rattle.translation.specs.Handed.{Ends, handed};
 ghost use Rattle.translation.specs.Promises.{Translated};
 use crate::Setting;
 use crate::Terms;
@@ -50,7 +52,8 @@ fn translate_by(
     }
 }
 
-// Refusals 1 to 4, or the caller's own, or what the table of the image makes of the text, by the sections and the verdict that the image was opened with.
+// Refusals 1 to 4, or the caller's own, or what the table of the image makes of the text, by the
+// sections and the verdict that the image was opened with.
 fn translate_judged(
     image: &[u8],
     s: Sections,
@@ -90,8 +93,10 @@ fn translate_on(terms: Terms, image: &[u8], text: &[u8], signs: &mut [u8]) -> Tr
     translate_read(r, terms, text, signs)
 }
 
-// Translates a text by a table: the refusal, or how many pieces it has and how many signs, which stand at the front of `signs`. What lies beyond them, and
-// all of `signs` where it is refused, is as it was. `also` is what the caller's own checks say: they come after the table's and before the text's.
+// Translates a text by a table: the refusal, or how many pieces it has and how many signs, which
+// stand at the front of `signs`. What lies beyond them, and all of `signs` where it is refused, is
+// as it was. `also` is what the caller's own checks say: they come after the table's and before the
+// text's.
 pub fn translate(image: &[u8], text: &[u8], also: Verdict, signs: &mut [u8; 65536]) -> Translation
     ensures { λ r. ⌜ Translated (now (image .entry)) (now (text .entry)) also (now (signs .entry)) r (now (signs .exit)) ⌝ }
 {

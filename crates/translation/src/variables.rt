@@ -1,4 +1,5 @@
-// The state variables: all start at no, and each piece's class moves them. The states are a value that goes in and comes back.
+// The state variables: all start at no, and each piece's class moves them. The states are a value
+// that goes in and comes back.
 
 ghost use mathlib.Core.Path.{_≡_};
 ghost use mathlib.Core.Bool.{false};
@@ -6,8 +7,8 @@ ghost use lib.ListN.{replicate};
 ghost use Rattle.table.specs.Numbers.{mostVariables};
 ghost use Rattle.table.specs.Table.{tableIn};
 ghost use Rattle.translation.specs.Decide.{turned, moved};
-ghost use Rattle.translation.specs.Opened.{Opened};
-ghost use Rattle.translation.specs.States.{statesIn};
+ghost use Rattle.translation.specs.inside.Opened.{Opened};
+ghost use Rattle.translation.specs.inside.States.{statesIn};
 use crate::deciding::byte_of_class;
 use table::Sections;
 

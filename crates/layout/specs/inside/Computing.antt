@@ -1,5 +1,5 @@
 -- Every definition of this crate and of those below it, under one name: a theorem that is proved by computing says `unfolding computing`.
-use Rattle.translation.specs.Computing.{computing as computing-translation}
+use Rattle.translation.specs.inside.Computing.{computing as computing-translation}
 use Rattle.pages.specs.inside.Computing.{computing as computing-pages}
 use Rattle.layout.specs.Emboss.{refused, done, roomed, laid, embossFollowed, embossing}
 

@@ -35,7 +35,7 @@ afterFormat sheet p g = elim (formatOf g) [ none ↦ p | some format ↦ afterIt
 abbrev pub formatBytes : Sheet → Place → ℕ → List ℕ
 formatBytes sheet p g = moveBytes p (afterFormat sheet p g) []
 
--- W cells are a word
+-- a word of cells
 abbrev pub wordBytes : Sheet → Place → List ℕ → List ℕ
 wordBytes sheet p cells = moveBytes p (afterWord sheet p (length cells)) cells
 

@@ -4,7 +4,7 @@ use mathlib.Core.List.{List}
 use mathlib.Core.Path.{_≡_}
 use lib.ListN.{length, take}
 use Rattle.table.specs.Numbers.{entrySigns, mostText}
-use Rattle.table.specs.Wrote.{Wrote}
+use Rattle.table.specs.inside.Wrote.{Wrote}
 use Rattle.pages.specs.Numbers.{mostWidth}
 use Rattle.pages.specs.Place.{standing, moveBytes}
 use Rattle.pages.specs.Fill.{Outcome}

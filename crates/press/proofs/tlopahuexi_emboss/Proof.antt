@@ -4,13 +4,14 @@ use borrow.Author.Needs.{needs}
 use Prim.Native.Nat.{ℕ}
 use mathlib.Core.List.{[], _∷_}
 use mathlib.Core.Path.{_≡_, refl}
-use Rattle.layout.specs.Promises.{AnswerNumber, AnswerPlace, AnswerWritten, AnswerPieces, AnswerLines, AnswerPages}
+use Rattle.layout.specs.Emboss.{number, place, written, pieces, lines, pages}
+use Rattle.layout.specs.Promises.{Tells}
 use Rattle.layout.specs.declared.Answer.{Answer}
 use Rattle.press.specs.Promises.{sixValues}
 use Rattle.press.proofs.tlopahuexi_emboss.Statement.{statement}
 use Rattle.press.proofs.tlopahuexi_emboss.Tie as tie
 
-six-told : {a : Answer} {n p w k l g : ℕ} → AnswerNumber a n → AnswerPlace a p → AnswerWritten a w → AnswerPieces a k → AnswerLines a l → AnswerPages a g
+six-told : {a : Answer} {n p w k l g : ℕ} → Tells number a n → Tells place a p → Tells written a w → Tells pieces a k → Tells lines a l → Tells pages a g
     → n ∷ p ∷ w ∷ k ∷ l ∷ g ∷ [] ≡ sixValues a
 unfolding sixValues
 six-told n p w k l g = rw (n .is) (rw (p .is) (rw (w .is) (rw (k .is) (rw (l .is) (rw (g .is) refl)))))

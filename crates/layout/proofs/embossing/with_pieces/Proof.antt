@@ -1,7 +1,7 @@
 -- `layout::embossing::with_pieces` meets its contract: case by case.
 use borrow.Author.Needs.{needs}
 use mathlib.Core.Path.{sym, ap}
-use Rattle.layout.specs.Emboss.{withPieces}
+use Rattle.layout.specs.inside.Pieces.{withPieces}
 use Rattle.layout.proofs.embossing.with_pieces.Statement.{statement}
 use Rattle.layout.proofs.embossing.with_pieces.Tie as tie
 

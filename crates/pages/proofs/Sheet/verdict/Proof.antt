@@ -1,5 +1,5 @@
 -- `pages::Sheet::verdict` meets its contract: the test is the definition's.
-use Rattle.pages.specs.Fill.{sheetRight, sheetVerdict}
+use Rattle.pages.specs.Volume.{sheetRight, sheetVerdict}
 use Rattle.pages.proofs.Sheet.verdict.Statement.{statement}
 use Rattle.pages.proofs.Sheet.verdict.Tie as tie
 

@@ -9,7 +9,8 @@ use lib.Seq.{sets, sets-eq}
 use borrow.Author.Tests.{le-leb, lt-leb}
 use Rattle.pages.specs.Words.{Item, itemsOf}
 use Rattle.pages.specs.Place.{volume}
-use Rattle.pages.specs.Fill.{bytesOf, endOf, refused, done, roomed}
+use Rattle.pages.specs.Volume.{bytesOf, endOf}
+use Rattle.pages.specs.Fill.{refused, done, roomed}
 use Rattle.pages.specs.declared.Place.{Place}
 use Rattle.pages.proofs.Whole.{written-volume}
 use Rattle.pages.proofs.filling.fill_accepted.Statement.{statement}

@@ -1,13 +1,27 @@
 -- `table::framing::sections_in` meets its contract: a right trailer and right distances tell that each section's bytes are there to be counted, and each
 -- section is then the definition's by what `section_of` answers at the distances.
 use borrow.Author.Needs.{needs}
-use Prim.Native.Nat.{ℕ, _+_, _-_, _≤_, _<_}
+use Prim.Native.Nat.{ℕ, _+_, _-_, _/_, _≤_, _<_}
+use mathlib.Core.Bool.{true}
 use mathlib.Core.List.{List}
 use mathlib.Core.Path.{_≡_}
 use native.Mathlib.Omega.{arith}
 use lib.ListN.{length}
-use Rattle.table.specs.Sections.{byteAt, trailerAt, classesIn, variablesIn, sectionAt, lastSection, sectionsIn}
-use Rattle.table.proofs.Distances.{distances-fall, Numbered, trailer-numbers}
+use Rattle.table.specs.Numbers.{letterSize, entrySize, contextSize}
+use Rattle.table.specs.Sections.{
+  byteAt,
+  trailerAt,
+  distance,
+  classesIn,
+  variablesIn,
+  trailerRight,
+  distancesRight,
+  sectionAt,
+  lastSection,
+  sectionsIn,
+}
+use Rattle.table.specs.declared.Section.{Section}
+use Rattle.table.proofs.Distances.{distances-fall, trailer-numbers}
 use Rattle.table.proofs.framing.sections_in.Statement.{statement}
 use Rattle.table.proofs.framing.sections_in.Tie as tie
 
@@ -51,73 +65,120 @@ distance-of-requires-4 c κs = search needs
 distance-of-requires-5 : tie.Need-distance-of-requires-5
 distance-of-requires-5 c κs = search needs
 
--- what the distances and the numbers are, once they are read
-record Known (image : List ℕ) (d₀ d₁ d₂ d₃ d₄ : ℕ) : Type 0 where
+-- the distances once they are read
+record Read (image : List ℕ) (d₀ d₁ d₂ d₃ d₄ : ℕ) : Type 0 where
   room : d₀ < 65536
-  first : d₀ ≡ length image - 14
-  second : d₁ ≤ d₀
-  third : d₂ ≤ d₁
-  fourth : d₃ ≤ d₂
-  fifth : d₄ ≤ d₃
-  numbers : Numbered image
+  first : d₀ ≡ distance image 0
+  second : d₁ ≡ distance image 1
+  third : d₂ ≡ distance image 2
+  fourth : d₃ ≡ distance image 3
+  fifth : d₄ ≡ distance image 4
 
-known : (c : tie.After-distance-of5)
-    → Known (c .before .before .before .before .before .before .before .before .args .image .now)
+-- what `section_of` asks, and what it answers
+abbrev Asked : List ℕ → ℕ → ℕ → ℕ → Type 0
+Asked image d e size = (e ≤ d) × (d ≤ trailerAt image) × (trailerAt image < 65536) × (0 < size)
+
+abbrev between : List ℕ → ℕ → ℕ → ℕ → Section
+between image d e size = record { start = trailerAt image - d; size = size; records = (d - e) / size }
+
+record AllAsked (image : List ℕ) (d₀ d₁ d₂ d₃ d₄ : ℕ) : Type 0 where
+  alphabet : Asked image d₀ d₁ letterSize
+  contractions : Asked image d₁ d₂ entrySize
+  contexts : Asked image d₂ d₃ contextSize
+  transitions : Asked image d₃ d₄ (classesIn image)
+  fits : classesIn image + variablesIn image < 65536
+  decisions : Asked image d₄ 0 (classesIn image + variablesIn image)
+
+module _ {image : List ℕ} {d₀ d₁ d₂ d₃ d₄ : ℕ} (r : Read image d₀ d₁ d₂ d₃ d₄) where
+  asked : trailerRight image ≡ true → distancesRight image ≡ true → AllAsked image d₀ d₁ d₂ d₃ d₄
+  asked t e =
+      let n = trailer-numbers image t in
+      let f = distances-fall image e in
+      record {
+        alphabet = omega arith;
+        contractions = omega arith;
+        contexts = omega arith;
+        transitions = omega arith;
+        fits = omega arith;
+        decisions = omega arith;
+      }
+
+  gathered : {s₀ s₁ s₂ s₃ s₄ : Section}
+      → s₀ ≡ between image d₀ d₁ letterSize
+      → s₁ ≡ between image d₁ d₂ entrySize
+      → s₂ ≡ between image d₂ d₃ contextSize
+      → s₃ ≡ between image d₃ d₄ (classesIn image)
+      → s₄ ≡ between image d₄ 0 (classesIn image + variablesIn image)
+      → record {
+        alphabet = s₀;
+        contractions = s₁;
+        contexts = s₂;
+        transitions = s₃;
+        decisions = s₄;
+        classes = classesIn image;
+        variables = variablesIn image;
+      }
+      ≡ sectionsIn image
+  unfolding sectionsIn sectionAt lastSection
+  gathered e₀ e₁ e₂ e₃ e₄ =
+      let whole : d₄ - 0 ≡ d₄ = omega arith in
+      rw (e₀, e₁, e₂, e₃, e₄, whole, r .first, r .second, r .third, r .fourth, r .fifth)
+
+read : (c : tie.After-distance-of5)
+    → Read (c .before .before .before .before .before .before .before .before .args .image .now)
     (c .before .before .before .before .distance-of .result) (c .before .before .before .distance-of2 .result)
     (c .before .before .distance-of3 .result) (c .before .distance-of4 .result) (c .distance-of5 .result)
-unfolding trailerAt
-known c =
-    let start = c .before .before .before .before .before .before .before .before in
-    let f = distances-fall (start .args .image .now) (start .pre .2) in
+read c =
     record {
       room = c .before .before .before .before .distance-of .ensures .1;
-      first = omega arith;
-      second = omega arith;
-      third = omega arith;
-      fourth = omega arith;
-      fifth = omega arith;
-      numbers = trailer-numbers (start .args .image .now) (start .pre .1);
+      first = c .before .before .before .before .distance-of .ensures .0;
+      second = c .before .before .before .distance-of2 .ensures .0;
+      third = c .before .before .distance-of3 .ensures .0;
+      fourth = c .before .distance-of4 .ensures .0;
+      fifth = c .distance-of5 .ensures .0;
     }
 
+all-asked : (c : tie.After-distance-of5)
+    → AllAsked (c .before .before .before .before .before .before .before .before .args .image .now)
+    (c .before .before .before .before .distance-of .result) (c .before .before .before .distance-of2 .result)
+    (c .before .before .distance-of3 .result) (c .before .distance-of4 .result) (c .distance-of5 .result)
+all-asked c =
+    let p = c .before .before .before .before .before .before .before .before .pre in
+    asked (read c) (p .1) (p .2)
+
 section-of-requires : tie.Need-section-of-requires
-section-of-requires c κs = let k = known c in omega arith
+unfolding trailerAt
+section-of-requires c κs = all-asked c .alphabet
 
 section-of-requires-2 : tie.Need-section-of-requires-2
-section-of-requires-2 c κs = let k = known (c .before) in omega arith
+unfolding trailerAt
+section-of-requires-2 c κs = all-asked (c .before) .contractions
 
 section-of-requires-3 : tie.Need-section-of-requires-3
-section-of-requires-3 c κs = let k = known (c .before .before) in omega arith
+unfolding trailerAt
+section-of-requires-3 c κs = all-asked (c .before .before) .contexts
 
 section-of-requires-4 : tie.Need-section-of-requires-4
-unfolding classesIn variablesIn trailerAt byteAt
-section-of-requires-4 c κs = let k = known (c .before .before .before) in omega arith
+unfolding classesIn trailerAt byteAt
+section-of-requires-4 c κs = all-asked (c .before .before .before) .transitions
 
 add-section-of : tie.Need-add-section-of
 unfolding classesIn variablesIn trailerAt byteAt
-add-section-of c = let k = known (c .before .before .before .before) in omega arith
+add-section-of c = record { fits = all-asked (c .before .before .before .before) .fits }
 
 section-of-requires-5 : tie.Need-section-of-requires-5
 unfolding classesIn variablesIn trailerAt byteAt
-section-of-requires-5 c κs = let k = known (c .before .before .before .before) in omega arith
+section-of-requires-5 c κs = all-asked (c .before .before .before .before) .decisions
 
 returns : tie.Need-returns
-unfolding sectionsIn sectionAt lastSection classesIn variablesIn trailerAt byteAt
+unfolding classesIn variablesIn trailerAt byteAt
 returns c =
-    let d = c .before .before .before .before .before in
-    let whole : d .distance-of5 .result - 0 ≡ d .distance-of5 .result = omega arith in
-    rw (
-      c .before .before .before .before .section-of .ensures,
-      c .before .before .before .section-of2 .ensures,
-      c .before .before .section-of3 .ensures,
-      c .before .section-of4 .ensures,
-      c .section-of5 .ensures,
-      whole,
-      d .before .before .before .before .distance-of .ensures .0,
-      d .before .before .before .distance-of2 .ensures .0,
-      d .before .before .distance-of3 .ensures .0,
-      d .before .distance-of4 .ensures .0,
-      d .distance-of5 .ensures .0,
-    )
+    gathered (read (c .before .before .before .before .before))
+    (c .before .before .before .before .section-of .ensures)
+    (c .before .before .before .section-of2 .ensures)
+    (c .before .before .section-of3 .ensures)
+    (c .before .section-of4 .ensures)
+    (c .section-of5 .ensures)
 
 pub sections-in-spec : {M : Type 1} → statement M
 sections-in-spec =

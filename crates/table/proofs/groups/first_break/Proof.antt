@@ -7,7 +7,7 @@ use borrow.Author.Count.{below-more}
 use Rattle.table.specs.Table.{tableIn}
 use Rattle.table.specs.Grouping.{breaksAt, firstBreak}
 use Rattle.table.specs.Verdict.{strings}
-use Rattle.table.specs.Found.{found}
+use Rattle.table.specs.inside.Found.{found}
 use Rattle.table.proofs.Search.{found-first, found-none}
 use Rattle.table.proofs.GroupLaws.{keeps-by, strings-length}
 use Rattle.table.proofs.groups.first_break.Statement.{statement}

@@ -7,7 +7,7 @@ use mathlib.Core.Bool.{Bool, true}
 use mathlib.Core.Path.{_≡_, sym, _∙_}
 use native.Mathlib.Omega.{arith}
 use Rattle.table.specs.Sections.{recordByte}
-use Rattle.table.specs.Judging.{rightByte}
+use Rattle.table.specs.inside.Judging.{rightByte}
 use Rattle.table.proofs.Tests.{every-law, every-fails}
 use mathlib.Core.List.{List}
 use Rattle.table.specs.declared.Section.{Section}

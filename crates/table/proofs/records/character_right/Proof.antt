@@ -1,7 +1,7 @@
 -- `table::records::character_right` meets its contract: the branch is the definition's.
 use borrow.Author.Needs.{needs}
 use borrow.Author.Tests.{lt-ltb, le-ltb}
-use Rattle.table.specs.Judging.{rightCharacter}
+use Rattle.table.specs.inside.Judging.{rightCharacter}
 use Rattle.table.proofs.records.character_right.Statement.{statement}
 use Rattle.table.proofs.records.character_right.Tie as tie
 

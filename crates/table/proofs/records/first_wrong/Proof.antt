@@ -4,7 +4,7 @@ use Prim.Native.Nat.{_-_, _≤_}
 use mathlib.Core.Path.{_≡_, refl, sym, _∙_, ap}
 use native.Mathlib.Omega.{arith}
 use Rattle.table.specs.Records.{firstWrongOf, firstWrong}
-use Rattle.table.specs.Judging.{foundWrong}
+use Rattle.table.specs.inside.Judging.{foundWrong}
 use Rattle.table.proofs.SectionOrder.{wrongFrom, wrong-here, right-here}
 use Rattle.table.proofs.records.first_wrong.Statement.{statement}
 use Rattle.table.proofs.records.first_wrong.Tie as tie

@@ -6,7 +6,7 @@ use mathlib.Core.Path.{refl}
 use native.Mathlib.Omega.{arith}
 use lib.ListN.{getD-replicate}
 use Rattle.table.specs.Search.{firstFrom}
-use Rattle.table.specs.Judging.{letterNumber, Gathered}
+use Rattle.table.specs.inside.Judging.{letterNumber, Gathered}
 use Rattle.table.proofs.LetterNumbers.{gathered-old, gathered-new}
 use mathlib.Core.Path.{subst}
 use Rattle.table.proofs.records.letters_by_symbol.Statement.{statement}

@@ -7,7 +7,7 @@ use Rattle.table.proofs.SectionOrder.{last-name}
 use Rattle.table.proofs.RuleTests.{context-tests, transition-tests}
 use Prim.Native.Nat.{ℕ, _<_}
 use mathlib.Core.Path.{subst}
-use Rattle.table.specs.Judging.{nameAt}
+use Rattle.table.specs.inside.Judging.{nameAt}
 use Rattle.table.proofs.records.record_right.Statement.{statement}
 use Rattle.table.proofs.records.record_right.Tie as tie
 

@@ -9,7 +9,7 @@ use mathlib.Core.Path.{_≡_, sym, _∙_}
 use native.Mathlib.Omega.{arith}
 use Rattle.table.specs.Numbers.{stringByte, mostLength}
 use Rattle.table.specs.Sections.{recordByte}
-use Rattle.table.specs.Judging.{rightCharacter}
+use Rattle.table.specs.inside.Judging.{rightCharacter}
 use Rattle.table.specs.declared.Section.{Section}
 use Rattle.table.proofs.Tests.{every-law, every-fails}
 use Rattle.table.proofs.records.string_right.Statement.{statement}

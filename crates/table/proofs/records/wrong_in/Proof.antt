@@ -6,8 +6,8 @@ use mathlib.Core.Bool.{false, not}
 use mathlib.Core.Path.{_≡_, sym, _∙_, ap}
 use native.Mathlib.Omega.{arith}
 use Rattle.table.specs.Records.{sectionNamed}
-use Rattle.table.specs.Found.{found}
-use Rattle.table.specs.Judging.{nameAt, wrongAt}
+use Rattle.table.specs.inside.Found.{found}
+use Rattle.table.specs.inside.Judging.{nameAt, wrongAt}
 use Rattle.table.proofs.Search.{found-first, found-none}
 use Rattle.table.specs.declared.Section.{Section}
 use Rattle.table.proofs.records.wrong_in.Statement.{statement}

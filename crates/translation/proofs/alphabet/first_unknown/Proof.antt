@@ -8,7 +8,7 @@ use mathlib.Core.Path.{_≡_, sym, _∙_, ap}
 use native.Mathlib.Omega.{arith}
 use lib.ListN.{length, getD}
 use Rattle.table.specs.Table.{tableIn}
-use Rattle.table.specs.Found.{found}
+use Rattle.table.specs.inside.Found.{found}
 use Rattle.table.specs.declared.Sections.{Sections}
 use Rattle.table.proofs.Search.{found-first, found-none}
 use Rattle.translation.specs.Letters.{isUnknown, firstUnknown}

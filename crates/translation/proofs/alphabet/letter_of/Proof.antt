@@ -10,7 +10,7 @@ use lib.Dec.{eqb}
 use lib.ListN.{getD}
 use borrow.Author.Tests.{eq-eqb, ne-eqb}
 use Rattle.table.specs.Numbers.{symbolByte}
-use Rattle.table.specs.Found.{found}
+use Rattle.table.specs.inside.Found.{found}
 use Rattle.table.specs.Sections.{byteAt, offset, recordByte}
 use Rattle.table.specs.declared.Section.{Section}
 use Rattle.table.proofs.Reading.{letters-long}

@@ -4,7 +4,7 @@ use borrow.Author.Tests.{not-true, not-false}
 use mathlib.Core.Path.{sym, _∙_}
 use Rattle.table.specs.Records.{contractions, sectionNamed}
 use Rattle.table.specs.Table.{entryAt}
-use Rattle.translation.specs.States.{statesIn}
+use Rattle.translation.specs.inside.States.{statesIn}
 use Rattle.translation.proofs.Entries.{not-begun, begun}
 use Rattle.translation.proofs.choosing.admits.Statement.{statement}
 use Rattle.translation.proofs.choosing.admits.Tie as tie

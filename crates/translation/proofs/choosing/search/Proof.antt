@@ -12,13 +12,13 @@ use lib.ListN.{length, getD}
 use Rattle.table.specs.Numbers.{stringByte}
 use Rattle.table.specs.Sections.{byteAt, offset, recordByte}
 use Rattle.table.specs.Table.{tableIn}
-use Rattle.table.specs.Found.{found}
+use Rattle.table.specs.inside.Found.{found}
 use Rattle.table.specs.declared.Sections.{Sections}
 use Rattle.table.proofs.Reading.{entries-long}
 use Rattle.table.proofs.Search.{found-first, found-none}
 use Rattle.translation.specs.Decide.{States}
 use Rattle.translation.specs.Choose.{admissible, entry, choice}
-use Rattle.translation.specs.States.{statesIn}
+use Rattle.translation.specs.inside.States.{statesIn}
 use Rattle.translation.specs.declared.Setting.{Setting}
 use Rattle.translation.proofs.Entries.{first-differs}
 use Rattle.translation.proofs.Offsets.{walk-starts, walk-goes-on, walk-fits}

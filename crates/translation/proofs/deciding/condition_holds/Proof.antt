@@ -9,7 +9,7 @@ use lib.Seq.{getD-take}
 use Rattle.table.specs.Sections.{offset}
 use Rattle.table.specs.Table.{columnAt}
 use Rattle.translation.specs.Decide.{conditionHolds}
-use Rattle.translation.specs.States.{statesIn}
+use Rattle.translation.specs.inside.States.{statesIn}
 use Rattle.table.proofs.Reading.{part-at}
 use Rattle.translation.proofs.deciding.condition_holds.Statement.{statement}
 use Rattle.translation.proofs.deciding.condition_holds.Tie as tie

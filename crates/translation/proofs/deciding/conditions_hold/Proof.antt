@@ -14,7 +14,7 @@ use Rattle.table.specs.declared.Sections.{Sections}
 use Rattle.table.proofs.Sound.{sound-column}
 use Rattle.table.proofs.Tests.{every-law, every-fails}
 use Rattle.translation.specs.Decide.{States, state, conditionHolds, conditionsHold}
-use Rattle.translation.specs.States.{statesIn}
+use Rattle.translation.specs.inside.States.{statesIn}
 use Rattle.translation.proofs.deciding.conditions_hold.Statement.{statement}
 use Rattle.translation.proofs.deciding.conditions_hold.Tie as tie
 

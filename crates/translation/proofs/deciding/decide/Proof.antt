@@ -9,7 +9,7 @@ use lib.ListN.{drop}
 use Rattle.table.specs.Table.{Column, tableIn, columnAt}
 use Rattle.table.specs.declared.Sections.{Sections}
 use Rattle.translation.specs.Decide.{States, Ruling, accept, reject, next, ruling, decided}
-use Rattle.translation.specs.States.{statesIn, said}
+use Rattle.translation.specs.inside.States.{statesIn, said}
 use Rattle.translation.proofs.Records.{columns-from, columns-end}
 use Rattle.translation.proofs.deciding.decide.Statement.{statement}
 use Rattle.translation.proofs.deciding.decide.Tie as tie

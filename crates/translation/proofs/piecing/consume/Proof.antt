@@ -8,8 +8,8 @@ use lib.ListN.{length, drop, length-drop}
 use Rattle.table.specs.Table.{tableIn}
 use Rattle.table.proofs.Sound.{sound-entries}
 use Rattle.translation.specs.Pieces.{frontPiece}
-use Rattle.translation.specs.States.{statesIn}
-use Rattle.translation.specs.Inside.{MadeAs}
+use Rattle.translation.specs.inside.States.{statesIn}
+use Rattle.translation.specs.inside.Making.{MadeAs}
 use Rattle.translation.proofs.Moving.{start-held}
 use Rattle.translation.proofs.Writing.{wrote-long}
 use Rattle.translation.proofs.Chosen.{front-fits}

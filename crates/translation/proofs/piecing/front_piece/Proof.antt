@@ -2,7 +2,7 @@
 use borrow.Author.Needs.{needs}
 use mathlib.Core.Path.{sym, _∙_}
 use Rattle.table.proofs.Search.{found-at, found-nothing}
-use Rattle.translation.specs.States.{statesIn}
+use Rattle.translation.specs.inside.States.{statesIn}
 use Rattle.translation.proofs.Fronts.{chosen-there, made-by-entry, made-by-letter}
 use Rattle.translation.proofs.piecing.front_piece.Statement.{statement}
 use Rattle.translation.proofs.piecing.front_piece.Tie as tie

@@ -1,6 +1,6 @@
 -- `translation::translating::translate` meets its contract: what follows the text is the blank, and the array that is lent has 65,536 bytes.
 use borrow.Author.Needs.{needs}
-use Rattle.translation.specs.Translate.{translation}
+use Rattle.translation.specs.Handed.{translation}
 use Rattle.translation.proofs.translating.translate.Statement.{statement}
 use Rattle.translation.proofs.translating.translate.Tie as tie
 

@@ -40,7 +40,8 @@ use Rattle.table.proofs.open as opens
 use Rattle.table.proofs.open.Symbol as open-def
 use Rattle.table.proofs.open.Symbol.{name as #table·open}
 use Rattle.table.proofs.open.Met as open-thm
-use Rattle.translation.specs.Translate.{Ends, handed, translateOn}
+use Rattle.translation.specs.Translate.{translateOn}
+use Rattle.translation.specs.Handed.{Ends, handed}
 use Rattle.translation.specs.declared.Terms.{Terms}
 use Rattle.translation.proofs.Terms as P
 use Rattle.translation.proofs.Terms.Laws as P′

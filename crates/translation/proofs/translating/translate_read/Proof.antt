@@ -37,14 +37,15 @@ use denote.Triple.Walked.{needs}
 use Rattle.table.specs.Numbers.{entrySigns, mostText}
 use Rattle.table.specs.Promises.{Reads}
 use Rattle.table.specs.declared.Reader.{Reader}
-use Rattle.table.proofs.Walks.{Met, starts, calls, ends, of-local, gone, known, framed, closes, Bytes, Buffer, bytes, bytes-typed, buffer-typed, sections-typed, verdict-typed, reader-typed}
+use Rattle.table.proofs.Walks.{Met, starts, calls, ends, of-local, gone, known, framed, closes, Bytes, Buffer, bytes, bytes-typed, buffer-typed, sections-typed, verdict-typed, reader-typed, bytes-type, reader-types}
 use Rattle.table.proofs.Reader as R
 use Rattle.table.proofs.Reader.Laws as R′
 use Rattle.table.proofs.Sections as S
 use Rattle.table.proofs.Sections.Laws as S′
 use Rattle.table.proofs.Verdict as E
 use Rattle.table.proofs.Verdict.Laws as E′
-use Rattle.translation.specs.Translate.{Ends, handed, translateOn}
+use Rattle.translation.specs.Translate.{translateOn}
+use Rattle.translation.specs.Handed.{Ends, handed}
 use Rattle.translation.specs.declared.Terms.{Terms}
 use Rattle.translation.proofs.Terms as P
 use Rattle.translation.proofs.Terms.Laws as P′
@@ -120,12 +121,12 @@ module _ {M : Type 1} (𝓤 : URA M) (H : Heap 𝓤) (A : Atoms 𝓤) (W : Given
         pass1 ! (init ! 16 refl (reader-typed 𝓤 H A W (α κs) d is-d)) $ pass1 ! (init ! 14 refl (LL.lawful P.the-type P′.the-laws 𝓤 H A W .typed p _ is-p .0)) $
         pass1 ! (init ! 12 refl (bytes-typed 𝓤 H A W (named 1) (κs .1 .0) t is-t)) $
         pass1 ! (init ! 10 refl (buffer-typed 𝓤 H A W (named 2) (κs .1 .1 .0) x is-x)) $ pass0 ! $
-        -- [_9; …; _8; …; _7; …; _6; …; _5; …; _4; …; _3; …; _2; …; _1; …; room for _0; …; the tokens; what the parameters own]
-        assigns ! (of-opd ! (load ! (from ! (fld ! refl (stop !))) (look-in ! 16 (sub ! 0 refl (whole !))))) (from ! (stop !))
+        -- [_9; …; _8; …; _7; …; _6; …; _5; …; _4; …; _3; …; _2; …; _1; …; room for _0; …; the tokens; what the parameters own]; the reader's fields lie 0, 16 and 56 bytes into it
+        assigns ! (of-opd ! (load ! (from ! (fld ! {τ = bytes-type (named 0)} {d = 0} refl (stop !))) (look-in ! 16 {τ = bytes-type (named 0)} (sub ! {τs = reader-types (named 0)} 0 {τ = bytes-type (named 0)} {d = 0} refl (whole !))))) (from ! (stop !))
         (init ! 8 refl (bytes-typed 𝓤 H A W erased (κs .0) (d .image) (held .0))) $
-        assigns ! (of-opd ! (load ! (from ! (fld ! refl (stop !))) (look-in ! 16 (sub ! 1 refl (whole !))))) (from ! (stop !))
+        assigns ! (of-opd ! (load ! (from ! (fld ! {τ = S′.mir} {d = 16} refl (stop !))) (look-in ! 16 {τ = S′.mir} (sub ! {τs = reader-types (named 0)} 1 {τ = S′.mir} {d = 16} refl (whole !))))) (from ! (stop !))
         (init ! 6 refl (sections-typed 𝓤 H A W (d .sections) (held .1 .0))) $
-        assigns ! (of-opd ! (load ! (from ! (fld ! refl (stop !))) (look-in ! 16 (sub ! 2 refl (whole !))))) (from ! (stop !))
+        assigns ! (of-opd ! (load ! (from ! (fld ! {τ = E′.mir} {d = 56} refl (stop !))) (look-in ! 16 {τ = E′.mir} (sub ! {τs = reader-types (named 0)} 2 {τ = E′.mir} {d = 56} refl (whole !))))) (from ! (stop !))
         (init ! 4 refl (verdict-typed 𝓤 H A W (d .verdict) (held .1 .1 .0))) $
         assigns ! (addr ! (from ! (fld ! refl (hop ! (look-in ! 10 (sub ! 0 refl (whole !))) (stop !))))) (from ! (stop !)) (init ! 2 refl (tt, tt)) $
         assigns ! (agg ! (and-then ! (of-local ! 2 refl) (and-then ! (load ! (from ! (fld ! refl (stop !))) (look-in ! 10 (sub ! 1 refl (whole !)))) (no-more !))))

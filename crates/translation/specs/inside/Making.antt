@@ -5,7 +5,7 @@ use mathlib.Core.List.{List, [], _∷_, _++_}
 use mathlib.Core.Path.{_≡_}
 use lib.ListN.{length}
 use Rattle.table.specs.Table.{Letter, Entry}
-use Rattle.table.specs.Wrote.{Wrote}
+use Rattle.table.specs.inside.Wrote.{Wrote}
 use Rattle.translation.specs.Collapse.{unbarred, thinned}
 use Rattle.translation.specs.Pieces.{Piece, printed, signsOf}
 use Rattle.translation.specs.declared.collapsing.Run.{Run}

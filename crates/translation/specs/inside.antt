@@ -1,0 +1,4 @@
+pub mod Making
+pub mod Opened
+pub mod States
+pub mod Computing
