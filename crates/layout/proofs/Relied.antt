@@ -2,23 +2,30 @@
 -- answer's number besides: whatever answer and bytes afterwards the promise allows for an image, a
 -- text, a sheet and the bytes lent, they have the property.
 use Prim.Native.Nat.{ℕ, suc, _<_, _≤_}
-use mathlib.Core.List.{List, _++_, flatten}
+use mathlib.Core.List.{List, _∷_, _++_, map, flatten}
+use mathlib.Core.Option.{Option, none, some}
 use mathlib.Core.Logic.{_↔_}
 use mathlib.Core.Path.{_≡_, refl, sym, _∙_, ap, subst}
 use native.Mathlib.Decide.{decLt}
 use native.Mathlib.Omega.{arith}
-use lib.ListN.{length, take, drop, length-append}
-use lib.Seq.{drop-append-seam, take-append-seam}
+use lib.ListN.{length, getD, take, drop, length-append}
+use lib.Seq.{drop-append-seam, take-append-seam, getD-append-seam}
 use Rattle.table.specs.Numbers.{numberDone}
 use Rattle.table.specs.FirstLine.{FirstLine}
-use Rattle.table.specs.Refusals.{Between}
+use Rattle.table.specs.Refusals.{Between, HasLetter}
 use Rattle.table.specs.Table.{tableOf}
 use Rattle.table.specs.Verdict.{verdictOf}
 use Rattle.table.specs.declared.Verdict.the-variants.{Accepted}
 use Rattle.table.proofs.Refusals.{accepted-exactly-when}
 use Rattle.table.specs.Lists.{All}
 use Rattle.translation.specs.Collapse.{collapsed}
-use Rattle.translation.specs.Pieces.{piecesOf}
+use Rattle.translation.specs.Letters.{firstUnknown}
+use Rattle.translation.specs.Refusals.{UnknownAt}
+use Rattle.translation.specs.Pieces.{characters, piecesIn, piecesOf}
+use Rattle.translation.specs.Chosen.{pieceIn}
+use Rattle.translation.proofs.Collapse.{collapsed-known}
+use Rattle.translation.proofs.Consumed.{consumed-by-piece, rest-of-next}
+use Rattle.translation.proofs.Refusals.{unknown-exactly-when, none-unknown-exactly-when}
 use Rattle.translation.proofs.Chosen.{first-in-order}
 use Rattle.translation.proofs.States.{states-start, states-move}
 use Rattle.translation.specs.Translate.{blankFollows}
@@ -31,7 +38,7 @@ use Rattle.pages.specs.Right.{PageRight}
 use Rattle.pages.specs.Signs.{isDotted}
 use Rattle.pages.specs.Drawn.{volumeLines, Drawn}
 use Rattle.layout.specs.Emboss.{number, place, written, pieces, lines, pages, Outcome, done, bytesOf, embossFollowed, embossing}
-use Rattle.layout.specs.Refusals.{Line, of-table, line-5, line-8}
+use Rattle.layout.specs.Refusals.{Line, of-table, line-5, line-7, line-8}
 use Rattle.layout.specs.Promises.{Embossed}
 use Rattle.layout.specs.Relied.{wrote, textPieces, textItems, Untouched, Bounded, Translates, LaysOut, Earliest}
 use Rattle.layout.specs.declared.Answer.{Answer}
@@ -144,11 +151,32 @@ module _ (image text : List ℕ) (sheet : Sheet) (before : List ℕ) (answer : A
 
     -- ---- Demand 2
 
+    -- no character of the text is unknown
+    all-known : (i : ℕ) → UnknownAt (tableOf image .letters) text i → ⊥
+    all-known = go (firstUnknown (tableOf image .letters) text) refl
+      where
+        go : (o : Option ℕ) → firstUnknown (tableOf image .letters) text ≡ o → (i : ℕ) → UnknownAt (tableOf image .letters) text i → ⊥
+        go none e = none-unknown-exactly-when (tableOf image .letters) text .0 e
+        go (some at) e = absurd (no-line _ _ _ (line-7 (unknown-exactly-when (tableOf image .letters) text at .0 e)))
+
+    -- the first character of a piece's rest stands in the collapsed text, so it has its record
+    front-known : (i : ℕ) → i < length (piecesIn (tableOf image) blankFollows (collapsed text)) → (c : ℕ) (after : List ℕ)
+        → pieceIn (tableOf image) blankFollows (collapsed text) i .rest ≡ c ∷ after → HasLetter (tableOf image .letters) c
+    front-known i l c after e =
+        let before : List ℕ = flatten (map characters (take i (piecesIn (tableOf image) blankFollows (collapsed text)))) in
+        let whole : before ++ c ∷ after ≡ collapsed text = rw e at (consumed-by-piece (tableOf image) blankFollows (collapsed text) i l) in
+        let there : length before < length (collapsed text) = omega (arith, simp length-append at (ap length whole)) in
+        let is : getD (collapsed text) (length before) 0 ≡ c = ap (λ (s : List ℕ). getD s (length before) 0) (sym whole) ∙ getD-append-seam before c after 0 in
+        subst (HasLetter (tableOf image .letters)) is (collapsed-known (tableOf image .letters) text all-known (length before) there)
+
     pub call-translates : Translates image text answer
-    unfolding piecesOf
+    unfolding piecesOf flatten
     call-translates =
         record {
           counted = is-pieces;
+          first-rest = λ l. consumed-by-piece (tableOf image) blankFollows (collapsed text) 0 (subst (λ (n : ℕ). 0 < n) is-pieces l);
+          next-rest = λ i l. rest-of-next (tableOf image) blankFollows (collapsed text) i (subst (λ (n : ℕ). suc i < n) is-pieces l);
+          known = λ i l c after e. front-known i (subst (λ (n : ℕ). i < n) is-pieces l) c after e;
           consumed = Demands-laws.text-consumed blankFollows image text sheet (sizes .0) (sizes .1) table-accepted;
           chosen = λ i l. first-in-order (tableOf image) blankFollows (collapsed text) i (subst (λ (n : ℕ). i < n) is-pieces l);
           start = λ l. states-start (tableOf image) blankFollows (collapsed text) (subst (λ (n : ℕ). 0 < n) is-pieces l);

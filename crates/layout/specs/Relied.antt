@@ -2,10 +2,10 @@
 -- bytes afterwards. proofs/Relied.antt shows each of whatever answer and bytes the promise of `emboss` allows.
 use Prim.Native.Nat.{ℕ, suc, _<_, _≤_}
 use mathlib.Core.Bool.{false}
-use mathlib.Core.List.{List, map, flatten}
+use mathlib.Core.List.{List, _∷_, map, flatten}
 use mathlib.Core.Path.{_≡_}
 use lib.ListN.{length, take, drop}
-use Rattle.table.specs.Refusals.{Between}
+use Rattle.table.specs.Refusals.{Between, HasLetter}
 use Rattle.table.specs.Table.{tableOf}
 use Rattle.table.specs.Verdict.{verdictOf}
 use Rattle.table.specs.declared.Verdict.the-variants.{Accepted}
@@ -57,10 +57,16 @@ pub record Bounded (image : List ℕ) (sheet : Sheet) (before : List ℕ) (answe
   pub beyond : drop (written answer) after ≡ drop (written answer) before
 
 -- demand 2: the collapsed text is consumed from front to back, at each place by the first admissible entry or by the character's own record, and the
--- states start at no and are moved by each piece's class
+-- states start at no and are moved by each piece's class. What a piece is given is the rest of the text: the first piece all of it, each next one what the
+-- one before leaves; and its first character has an alphabet record
 pub record Translates (image text : List ℕ) (answer : Answer) : Type 0 where
   pub counted : pieces answer ≡ length (textPieces image text)
   pub consumed : flatten (map characters (textPieces image text)) ≡ collapsed text
+  pub first-rest : 0 < pieces answer → piece (textPieces image text) 0 .rest ≡ collapsed text
+  pub next-rest : (i : ℕ) → suc i < pieces answer
+      → piece (textPieces image text) (suc i) .rest ≡ drop (piece (textPieces image text) i .shift) (piece (textPieces image text) i .rest)
+  pub known : (i : ℕ) → i < pieces answer → (c : ℕ) (after : List ℕ) → piece (textPieces image text) i .rest ≡ c ∷ after
+      → HasLetter (tableOf image .letters) c
   pub chosen : (i : ℕ) → i < pieces answer → Chosen (tableOf image) blankFollows (piece (textPieces image text) i)
   pub start : 0 < pieces answer → (v : ℕ) → state (piece (textPieces image text) 0 .states) v ≡ false
   pub move : (i : ℕ) → suc i < pieces answer
