@@ -8,6 +8,7 @@ pub mod Kept
 pub mod Counts
 pub mod Volume
 pub mod Words
+pub mod Parts
 pub mod Signs
 pub mod Drawn
 pub mod Gather
