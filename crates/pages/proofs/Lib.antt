@@ -9,6 +9,7 @@ pub mod Counts
 pub mod Volume
 pub mod Words
 pub mod Parts
+pub mod Gathered
 pub mod Signs
 pub mod Drawn
 pub mod Gather

@@ -1,5 +1,6 @@
 pub mod Numbers
 pub mod Words
+pub mod Gathered
 pub mod Parts
 pub mod Place
 pub mod Volume
