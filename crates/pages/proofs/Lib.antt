@@ -8,6 +8,8 @@ pub mod Kept
 pub mod Counts
 pub mod Volume
 pub mod Words
+pub mod Parts
+pub mod Gathered
 pub mod Signs
 pub mod Drawn
 pub mod Gather

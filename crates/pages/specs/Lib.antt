@@ -1,5 +1,7 @@
 pub mod Numbers
 pub mod Words
+pub mod Gathered
+pub mod Parts
 pub mod Place
 pub mod Volume
 pub mod Fill

@@ -13,6 +13,7 @@ pub mod Consumed
 pub mod States
 pub mod Refusals
 pub mod Collapse
+pub mod Collapsed
 pub mod Signs
 pub mod Printing
 pub mod Fronts

@@ -1,5 +1,6 @@
 pub mod Numbers
 pub mod Collapse
+pub mod Collapsed
 pub mod Letters
 pub mod Decide
 pub mod Choose
