@@ -1,11 +1,12 @@
 //! Compares the proved program with the reference: random cases go to the program's standard input, its
 //! answers and whole buffers come back, and every value and every byte has to be the reference's. The head of
 //! crates/answers/src/main.rt has the byte form of a case. It also writes table images from their readable
-//! form, and runs the outside vectors.
+//! form, runs the outside vectors, and prints what `brailleout` has to print.
 
 #[macro_use]
 mod counts;
 mod generate;
+mod programs;
 mod reference;
 mod table;
 mod vectors;
@@ -23,6 +24,7 @@ const USAGE: &str = "compare --seed S --cases N --program WORD [--program WORD .
 compare case SEED
 compare table FILE IMAGE
 compare vectors FOLDER --program WORD [--program WORD ...]
+compare brailleout TABLE < TEXT
   The words after --program are the program and its arguments; the word self alone stands for the reference.";
 
 /// Cases that go to one run of the program.
@@ -35,6 +37,7 @@ fn main() {
         ["--serve"] => serve(),
         ["case", seed] => show(seed),
         ["table", file, image] => write_image(file, image),
+        ["brailleout", table] => programs::brailleout(table),
         ["vectors", folder, rest @ ..] => Settings::read(rest).and_then(|settings| vectors::run(folder, &settings.program)),
         rest => Settings::read(rest).and_then(|settings| compare(&settings)),
     };

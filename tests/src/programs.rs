@@ -1,0 +1,41 @@
+//! What the program `brailleout` prints, from the paragraph of document 01 that begins with its name.
+
+use crate::counts::Notes;
+use crate::reference::emboss;
+use std::fmt::Write as _;
+use std::io::{Read, Write as _};
+
+/// The first bytes of a reader, at most so many.
+fn first(reader: impl Read, most: u64) -> Result<Vec<u8>, String> {
+    let mut bytes = vec![];
+    reader.take(most).read_to_end(&mut bytes).map_err(|why| why.to_string())?;
+    Ok(bytes)
+}
+
+/// Prints what the program prints for a table file and the text on standard input. A table file that can't be
+/// opened or read counts as empty.
+pub fn brailleout(table: &str) -> Result<(), String> {
+    let image = match std::fs::File::open(table) {
+        Ok(file) => first(file, 32_768).unwrap_or_default(),
+        Err(_) => vec![],
+    };
+    let text = first(std::io::stdin().lock(), 16_385)?;
+    std::io::stdout().write_all(printed(&image, &text).as_bytes()).map_err(|why| why.to_string())
+}
+
+/// The answer, then the pages: with W 8, P 2 and 65,536 bytes of output.
+fn printed(image: &[u8], text: &[u8]) -> String {
+    let mut out = vec![0; 65_536];
+    let answer = emboss(image, text, 8, 2, &mut out, &mut Notes::new());
+    let mut printed =
+        format!("{} {} {} {} {}\n", answer.number, answer.place, answer.pieces, answer.lines, answer.pages);
+    // A refusal prints the first line alone: it has written nothing.
+    for page in out[..answer.written as usize].split_inclusive(|byte| *byte == 65) {
+        for line in page[..page.len() - 1].split_inclusive(|byte| *byte == 64) {
+            let cells: Vec<String> = line[..line.len() - 1].iter().map(u8::to_string).collect();
+            writeln!(printed, "{}", cells.join(" ")).expect("a string takes all");
+        }
+        printed.push_str("--\n");
+    }
+    printed
+}
