@@ -2,7 +2,7 @@
 -- the rest and refused for that alone. No name of Numbers.antt stands here, so a number that is mistyped there and in the code alike is refused here. All by
 -- computing; the images are built here and not in specs/, as nothing else is said of them.
 use Prim.Native.Nat.{ℕ, zero, suc, _+_, _-_, _*_, _/_, _%_}
-use mathlib.Core.Bool.{true}
+use mathlib.Core.Bool.{true, false}
 use mathlib.Core.List.{List, [], _∷_, _++_, map}
 use mathlib.Core.Path.{_≡_, refl}
 use lib.ListN.{length, getD, set, replicate}
@@ -145,14 +145,15 @@ cases =
     ∷ case (exchanged 2 long) 1 0
     ∷ case (exchanged 3 long) 1 0
     ∷ case (exchanged 4 long) 1 0
-    -- entries 0 to 1,199: two are right, and 1,200 too many
-    ∷ case (entered 2) 0 0
-    ∷ case (entered 1200) 1 0 ∷ []
+    -- the entries of `entered` are right
+    ∷ case (entered 2) 0 0 ∷ []
 
 judged : Case → ℕ × ℕ
 judged c = let v = verdictOf (c .image) in (verdictNumber v, verdictPlace v)
 
--- the cases; and of 1,199 entries, whose verdict would be long to compute, that the frame is right
-limits-as-written : (map judged cases ≡ map (λ (c : Case). (c .number, c .place)) cases) × (frameRight (entered 1199) ≡ true)
+-- the cases; and entries 0 to 1,199, by the frame alone: the verdict on so many would be long to compute
+limits-as-written :
+    (map judged cases ≡ map (λ (c : Case). (c .number, c .place)) cases)
+    × (map (λ n. frameRight (entered n)) (1199 ∷ 1200 ∷ []) ≡ true ∷ false ∷ [])
 unfolding computing twoBytes imageOf lettersFrom sized second entriesOf entered exchanged long case cases judged
 limits-as-written = (refl, refl)
