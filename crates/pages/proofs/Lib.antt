@@ -17,4 +17,5 @@ pub mod Steps
 pub mod Going
 pub mod Whole
 pub mod Sizes
+pub mod Limits
 pub mod Promises

@@ -14,6 +14,7 @@ pub mod VerdictSteps
 pub mod FirstLine
 pub mod Refusals
 pub mod Example
+pub mod Limits
 pub mod Product
 pub mod Promises
 pub mod Distances

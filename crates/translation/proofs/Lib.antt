@@ -19,5 +19,6 @@ pub mod Printing
 pub mod Fronts
 pub mod Cursor
 pub mod Outcomes
+pub mod Limits
 pub mod Promises
 pub mod Accepted
