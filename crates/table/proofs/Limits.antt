@@ -1,15 +1,19 @@
--- The limits of 'The table image' with the paper's numerals written out: at each limit a table that is right, and one past it a table that is right in all
--- the rest and refused for that alone. No name of Numbers.antt stands here, so a number that is mistyped there and in the code alike is refused here. All by
--- computing; the images are built here and not in specs/, as nothing else is said of them.
+-- The limits of 'Cells' and 'The table image' and the answers of 'What comes back' with the paper's numerals written out. At each limit of an image stands
+-- a table that is right, and one past it a table that is right in all the rest and refused for that alone. No name of Numbers.antt stands here, so a number
+-- that is mistyped there and in the code alike is refused here. All by computing; the images are built here and not in specs/, as nothing else is said of them.
 use Prim.Native.Nat.{ℕ, zero, suc, _+_, _-_, _*_, _/_, _%_}
 use mathlib.Core.Bool.{true, false}
 use mathlib.Core.List.{List, [], _∷_, _++_, map}
 use mathlib.Core.Path.{_≡_, refl}
 use lib.ListN.{length, getD, set, replicate}
+use Rattle.table.specs.Cells.{isCell}
+use Rattle.table.specs.Answers.{refusalNumber, refusalPlace}
 use Rattle.table.specs.Sections.{frameRight}
 use Rattle.table.specs.Verdict.{verdictOf}
 use Rattle.table.specs.Refusals.{verdictNumber, verdictPlace}
 use Rattle.table.specs.inside.Computing.{computing}
+use Rattle.table.specs.declared.Refusal.{Refusal}
+use Rattle.table.specs.declared.Refusal.the-variants.{Frame, Record, NoBlank, Grouping, Size, LongText, Unknown, Room}
 
 -- ---- An image from its parts. The distances are those of the parts' lengths
 
@@ -151,9 +155,22 @@ cases =
 judged : Case → ℕ × ℕ
 judged c = let v = verdictOf (c .image) in (verdictNumber v, verdictPlace v)
 
--- the cases; and entries 0 to 1,199, by the frame alone: the verdict on so many would be long to compute
-limits-as-written :
-    (map judged cases ≡ map (λ (c : Case). (c .number, c .place)) cases)
-    × (map (λ n. frameRight (entered n)) (1199 ∷ 1200 ∷ []) ≡ true ∷ false ∷ [])
-unfolding computing twoBytes imageOf lettersFrom sized second entriesOf entered exchanged long case cases judged
-limits-as-written = (refl, refl)
+-- ---- The limits
+
+-- each answer that refuses, in the order of the paper's table; one that has a place of its own is given 3
+refusals : List Refusal
+refusals = Frame ∷ Record 3 ∷ NoBlank ∷ Grouping 3 ∷ Size ∷ LongText ∷ Unknown 3 ∷ Room 3 ∷ []
+
+record LimitsAsWritten : Type 0 where
+  -- a cell is a number 0 to 63
+  cells : map isCell (0 ∷ 63 ∷ 64 ∷ []) ≡ true ∷ true ∷ false ∷ []
+  image-limits : map judged cases ≡ map (λ (c : Case). (c .number, c .place)) cases
+  -- entries 0 to 1,199: by the frame, as the verdict on so many would be long to compute
+  entry-limit : map (λ n. frameRight (entered n)) (1199 ∷ 1200 ∷ []) ≡ true ∷ false ∷ []
+  -- the columns 'No.' and 'Place'
+  numbers : map refusalNumber refusals ≡ 1 ∷ 2 ∷ 3 ∷ 4 ∷ 5 ∷ 6 ∷ 7 ∷ 8 ∷ []
+  places : map refusalPlace refusals ≡ 0 ∷ 3 ∷ 0 ∷ 3 ∷ 0 ∷ 16384 ∷ 3 ∷ 3 ∷ []
+
+limits-as-written : LimitsAsWritten
+unfolding computing twoBytes imageOf lettersFrom sized second entriesOf entered exchanged long case cases judged refusals
+limits-as-written = record { cells = refl; image-limits = refl; entry-limit = refl; numbers = refl; places = refl }

@@ -12,7 +12,7 @@ use native.Mathlib.Omega.{arith}
 use lib.ListN.{length}
 use Rattle.table.specs.Table.{Table, Entry}
 use Rattle.table.specs.Example.{ascii, aLetter, anEntry, aColumn}
-use Rattle.table.specs.Answers.{refusalNumber, refusalPlace}
+use Rattle.table.specs.Answers.{refusalNumber}
 use Rattle.table.specs.declared.Refusal.the-variants.{LongText}
 use Rattle.table.specs.declared.Verdict.the-variants.{Accepted}
 use Rattle.translation.specs.Letters.{firstUnknown}
@@ -66,20 +66,19 @@ onlyBlank =
 follows : ℕ → Setting
 follows c = record { following = c }
 
--- ----
+-- ---- The limits
 
 record LimitsAsWritten : Type 0 where
-  -- 6: text over 16,384 bytes, place 16,384
+  -- 6: text over 16,384 bytes; its number and place are in the table's Limits.antt
   text-limit : (table : Table) (setting : Setting) (text : List ℕ) → (translateBy table setting text ≡ refused LongText) ↔ (16384 < length text)
-  text-number : refusalNumber LongText ≡ 6
-  text-place : refusalPlace LongText ≡ 16384
-  -- both 0 and 64 mean blank, and no other sign does; 99 is no cell
+  -- both 0 and 64 mean blank, and 63 doesn't; 99 is no cell
   blank-signs : printed (0 ∷ 1 ∷ 62 ∷ 63 ∷ 64 ∷ 70 ∷ 73 ∷ 99 ∷ []) ≡ 0 ∷ 1 ∷ 62 ∷ 63 ∷ 0 ∷ 70 ∷ 73 ∷ []
-  -- past the end of text, the blank's class: at the end of the text the entry is admissible by the setting of the base, which is 32, and by no other
+  -- past the end of text, the blank's class: at the end of the text the entry is admissible by the setting of the base, which is 32, and by another not
   end-of-text :
-      map (λ (u : Setting). admissible onlyBlank u [] (ascii "A") beforeBlank) (baseTerms Accepted .setting ∷ follows 32 ∷ follows 65 ∷ follows 46 ∷ [])
+      map (λ (u : Setting). admissible onlyBlank u [] (ascii "A") beforeBlank)
+      (baseTerms Accepted .setting ∷ follows 32 ∷ follows 65 ∷ follows 46 ∷ [])
       ≡ true ∷ true ∷ false ∷ false ∷ []
 
 limits-as-written : LimitsAsWritten
 unfolding computing beforeBlank onlyBlank follows
-limits-as-written = record { text-limit = long-exactly-when; text-number = refl; text-place = refl; blank-signs = refl; end-of-text = refl }
+limits-as-written = record { text-limit = long-exactly-when; blank-signs = refl; end-of-text = refl }
