@@ -13,10 +13,10 @@ fn first(reader: impl Read, most: u64) -> Result<Vec<u8>, String> {
 }
 
 /// Prints what the program prints for a table file and the text on standard input. A table file that can't be
-/// opened or read counts as empty.
+/// opened counts as empty.
 pub fn brailleout(table: &str) -> Result<(), String> {
     let image = match std::fs::File::open(table) {
-        Ok(file) => first(file, 32_768).unwrap_or_default(),
+        Ok(file) => first(file, 32_768)?,
         Err(_) => vec![],
     };
     let text = first(std::io::stdin().lock(), 16_385)?;

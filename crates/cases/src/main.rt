@@ -115,7 +115,8 @@ fn all(image: &[u8]) {
 // parts two that begin alike (4).
 fn main() {
     let mut image = [0u8; 32768];
-    let held = console::read_table(&mut image);
+    let table = console::read_table(&mut image);
+    let held = table.count;
     all(&image[..held]);
     image[31] = 6;
     answered(&image[..held], &[65], sheet(8, 2));
