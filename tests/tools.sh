@@ -5,7 +5,8 @@ fail() {
     exit 1
 }
 
-# Builds the comparison. cargo is taken from the path, from its usual home, or from Debian's packages.
+# Builds the comparison. cargo is taken from the path, from its usual home, or from Debian's
+# packages.
 build_compare() {
     if ! command -v cargo >/dev/null; then
         PATH=${CARGO_HOME:-${HOME:-$(getent passwd "$(id -u)" | cut -d : -f 6)}/.cargo}/bin:$PATH
@@ -15,8 +16,8 @@ build_compare() {
     compare=$here/target/release/compare
 }
 
-# Programs are for x86-64; on another processor they run under the emulator, loader and libraries of the kit
-# that the command rt belongs to. `emulator` is empty where none is needed.
+# Programs are for x86-64; on another processor they run under the emulator, loader and libraries of
+# the kit that the command rt belongs to. `emulator` is empty where none is needed.
 find_emulator() {
     emulator=
     case $(uname -m) in

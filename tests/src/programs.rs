@@ -1,4 +1,5 @@
-//! What the program `brailleout` prints, from the paragraph of document 01 that begins with its name.
+//! What the program `brailleout` prints, from the paragraph of document 01 that begins with its
+//! name.
 
 use crate::counts::Notes;
 use crate::reference::emboss;
@@ -12,8 +13,8 @@ fn first(reader: impl Read, most: u64) -> Result<Vec<u8>, String> {
     Ok(bytes)
 }
 
-/// Prints what the program prints for a table file and the text on standard input. A table file that can't be
-/// opened counts as empty.
+/// Prints what the program prints for a table file and the text on standard input. A table file
+/// that can't be opened counts as empty.
 pub fn brailleout(table: &str) -> Result<(), String> {
     let image = match std::fs::File::open(table) {
         Ok(file) => first(file, 32_768)?,

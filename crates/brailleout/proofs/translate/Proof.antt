@@ -1,4 +1,5 @@
--- `brailleout::translate` is safe and ends: the bytes that the answer says are written lie within the buffer, by the promise of `emboss`.
+-- `brailleout::translate` is safe and ends: the bytes that the answer says are written lie within
+-- the buffer, by the promise of `emboss`.
 use borrow.Author.Needs.{needs}
 use mathlib.Core.Path.{sym}
 use lib.Seq.{length-take-le}

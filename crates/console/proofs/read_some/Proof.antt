@@ -1,4 +1,5 @@
--- `console::read_some` is safe and ends: the measure is how many tries are left, and a read leaves the buffer as long as it was.
+-- `console::read_some` is safe and ends: the measure is how many tries are left, and a read leaves
+-- the buffer as long as it was.
 use mathlib.Core.Path.{_≡_, refl}
 use borrow.Author.Needs.{needs}
 use native.Mathlib.Omega.{arith}

@@ -1,4 +1,5 @@
--- `console::read_whole` meets its contract: what is read lies within the buffer. The measure is how many bytes are left.
+-- `console::read_whole` meets its contract: what is read lies within the buffer. The measure is how
+-- many bytes are left.
 use Prim.Native.Nat.{ℕ, _≤_, _-_}
 use mathlib.Core.Path.{_≡_, refl, sym}
 use mathlib.Core.List.{List}

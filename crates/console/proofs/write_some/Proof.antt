@@ -1,4 +1,5 @@
--- `console::write_some` is safe and ends: the measure is how many tries are left, and the count is within the bytes.
+-- `console::write_some` is safe and ends: the measure is how many tries are left, and the count is
+-- within the bytes.
 use borrow.Author.Needs.{needs}
 use native.Mathlib.Omega.{arith}
 use Rattle.console.proofs.write_some.Statement.{statement}
