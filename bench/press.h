@@ -12,7 +12,7 @@ enum { NUMBER, PLACE, WRITTEN, PIECES, LINES, PAGES, VALUES };
 typedef void emboss_call(const uint8_t *image, uint64_t image_length, const uint8_t *text, uint64_t text_length, uint64_t width,
                          uint64_t length, uint8_t *out, uint64_t out_length, uint64_t answer[VALUES]);
 
-/* The proved call. */
+/* The proved call. It needs 81,000 bytes of stack, whatever it is asked (bench/stack): a thread that calls it wants 96 KiB at least. */
 extern emboss_call tlopahuexi_emboss;
 
 /* The same algorithm in C; a driver may hold it several times, each compiled in another way and under another name. */

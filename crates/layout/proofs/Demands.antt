@@ -3,7 +3,7 @@
 use Prim.Native.Nat.{ℕ, _<_}
 use mathlib.Core.Bool.{Bool}
 use mathlib.Core.List.{List, map, flatten}
-use mathlib.Core.Path.{_≡_, subst}
+use mathlib.Core.Path.{_≡_, subst, _∙_}
 use native.Mathlib.Omega.{arith}
 use lib.ListN.{length}
 use Rattle.table.specs.Refusals.{Between}
@@ -28,7 +28,7 @@ use Rattle.pages.specs.Spots.{layoutOf, withChoices, NoLater}
 use Rattle.pages.specs.Fitting.{Fitting, wordsIn}
 use Rattle.pages.specs.Right.{PageRight}
 use Rattle.pages.specs.Signs.{isDotted}
-use Rattle.pages.specs.Drawn.{volumeLines, Drawn}
+use Rattle.pages.specs.Drawn.{Shows}
 use Rattle.pages.specs.Volume.{bytesOf as bytesOfSigns}
 use Rattle.layout.specs.Emboss.{bytesOf}
 use Rattle.pages.proofs.Permitted as Permitted-laws
@@ -37,7 +37,8 @@ use Rattle.pages.proofs.Counts.{lines-are-64s, pages-are-65s}
 use Rattle.pages.proofs.Words.{items-fit}
 use Rattle.pages.proofs.Volume as Volume-laws
 use Rattle.pages.proofs.Signs.{volume-has-the-signs}
-use Rattle.pages.proofs.Drawn.{spots-are-the-bytes, choices-are-the-bytes}
+use Rattle.pages.proofs.Drawn.{bytes-show-the-layout, choices-are-the-bytes}
+use Rattle.pages.proofs.Ended.{volume-sizes-counted}
 use Rattle.pages.specs.declared.Sheet.{Sheet}
 
 module _ (setting : Setting) (image text : List ℕ) (sheet : Sheet) (width : Between leastWidth mostWidth (sheet .width)) (page-length : Between leastLength mostLength (sheet .length))
@@ -99,27 +100,26 @@ module _ (setting : Setting) (image text : List ℕ) (sheet : Sheet) (width : Be
   pub text-no-later : (layout : Layout) → Permitted sheet items layout → NoLater (layoutOf sheet items) layout
   text-no-later = NoLater-laws.no-later sheet page-room items
 
-  -- the spots of our layout are those of the output
-  pub text-spots : Drawn (volumeLines (bytesOf (tableOf image) setting text sheet)) (wordsIn items) (layoutOf sheet items .spots)
-  unfolding bytesOfSigns layoutOf
-  text-spots = spots-are-the-bytes sheet items text-fits page-room
+  -- the output shows our layout: its spots, its lines, and the lines of each of its pages
+  pub text-shown : Shows (bytesOf (tableOf image) setting text sheet) (wordsIn items) (layoutOf sheet items)
+  unfolding bytesOfSigns
+  text-shown = bytes-show-the-layout sheet items text-fits page-room
 
   -- and its lines and pages are the output's
   pub text-layout-lines : layoutOf sheet items .lines ≡ count lineMark (bytesOf (tableOf image) setting text sheet)
   unfolding bytesOfSigns layoutOf
   text-layout-lines = lines-are-64s sheet items text-fits page-room
 
-  pub text-layout-pages : layoutOf sheet items .pages ≡ count pageMark (bytesOf (tableOf image) setting text sheet)
+  pub text-layout-pages : length (layoutOf sheet items .pages) ≡ count pageMark (bytesOf (tableOf image) setting text sheet)
   unfolding bytesOfSigns layoutOf
-  text-layout-pages = pages-are-65s sheet items text-fits page-room
+  text-layout-pages = volume-sizes-counted sheet items page-room ∙ pages-are-65s sheet items text-fits page-room
 
-  -- every permitted layout arises from choices, and its spots are those of the bytes of the same words with the line ended before each chosen one
-  pub permitted-drawn : (layout : Layout) → Permitted sheet items layout
-      → (choices : List Bool) × Drawn (volumeLines (volume sheet (withChoices choices items))) (wordsIn items) (layout .spots)
-  unfolding layoutOf
-  permitted-drawn layout d =
+  -- every permitted layout arises from choices, and is shown by the bytes of the same words with the line ended before each chosen one
+  pub permitted-shown : (layout : Layout) → Permitted sheet items layout
+      → (choices : List Bool) × Shows (volume sheet (withChoices choices items)) (wordsIn items) layout
+  permitted-shown layout d =
       let c = Permitted-laws.permitted-by-choices sheet page-room items layout d in (
         c .choices,
-        subst (λ (l : Layout). Drawn (volumeLines (volume sheet (withChoices (c .choices) items))) (wordsIn items) (l .spots)) (c .same)
+        subst (λ (l : Layout). Shows (volume sheet (withChoices (c .choices) items)) (wordsIn items) l) (c .same)
             (choices-are-the-bytes sheet items text-fits page-room (c .choices)),
       )

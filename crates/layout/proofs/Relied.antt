@@ -36,7 +36,7 @@ use Rattle.pages.specs.Spots.{layoutOf}
 use Rattle.pages.specs.Fitting.{wordsIn}
 use Rattle.pages.specs.Right.{PageRight}
 use Rattle.pages.specs.Signs.{isDotted}
-use Rattle.pages.specs.Drawn.{volumeLines, Drawn}
+use Rattle.pages.specs.Drawn.{Shows}
 use Rattle.layout.specs.Emboss.{number, place, written, pieces, lines, pages, Outcome, done, bytesOf, embossFollowed, embossing}
 use Rattle.layout.specs.Refusals.{Line, of-table, line-5, line-7, line-8}
 use Rattle.layout.specs.Promises.{Embossed}
@@ -202,9 +202,9 @@ module _ (image text : List ℕ) (sheet : Sheet) (before : List ℕ) (answer : A
     call-earliest =
         record {
           ours = layoutOf sheet (textItems image text sheet);
-          drawn =
-              subst (λ (b : List ℕ). Drawn (volumeLines b) (wordsIn (textItems image text sheet)) (layoutOf sheet (textItems image text sheet) .spots)) (sym wrote-bytes)
-              (Demands-laws.text-spots blankFollows image text sheet (sizes .0) (sizes .1) table-accepted);
+          shown =
+              subst (λ (b : List ℕ). Shows b (wordsIn (textItems image text sheet)) (layoutOf sheet (textItems image text sheet))) (sym wrote-bytes)
+              (Demands-laws.text-shown blankFollows image text sheet (sizes .0) (sizes .1) table-accepted);
           lines = (Demands-laws.text-layout-lines blankFollows image text sheet (sizes .0) (sizes .1) table-accepted) ∙ sym (ap lines is-answer);
           pages = (Demands-laws.text-layout-pages blankFollows image text sheet (sizes .0) (sizes .1) table-accepted) ∙ sym (ap pages is-answer);
           permitted = (Demands-laws.text-permitted blankFollows image text sheet (sizes .0) (sizes .1) table-accepted);

@@ -3,19 +3,20 @@
 use Prim.Native.Nat.{ℕ, _-_}
 use Prim.Native.String.{String}
 use mathlib.Core.List.{List, [], _∷_, _++_, map}
-use mathlib.Core.Bool.{true, false}
-use mathlib.Core.Path.{_≡_, refl}
+use mathlib.Core.Bool.{Bool, true, false}
+use mathlib.Core.Path.{_≡_, refl, sym, _∙_, ap}
 use native.Mathlib.Omega.{arith}
 use lib.ListN.{length, replicate}
 use Rattle.table.specs.Example.{image, table, ascii}
 use Rattle.translation.specs.Pieces.{piecesOf, signsOf}
 use Rattle.translation.specs.Translate.{blankFollows}
-use Rattle.pages.specs.Words.{Item, word, itemsOf}
-use Rattle.pages.specs.Permitted.{Permitted}
+use Rattle.pages.specs.Words.{Item, word, lineEnd, emptyLine, itemsOf}
+use Rattle.pages.specs.Permitted.{Layout, Permitted}
+use Rattle.pages.specs.Spots.{layoutOf, withChoices}
 use Rattle.layout.specs.Emboss.{Outcome, embossing, number, place, written, pieces, lines, pages}
 use Rattle.pages.specs.declared.Sheet.{Sheet}
 use Rattle.layout.specs.inside.Computing.{computing}
-use Rattle.pages.proofs.Permitted.{choices-permitted}
+use Rattle.pages.proofs.Permitted.{choices-permitted, permitted-by-choices}
 
 -- ---- A row: the text, the output, and the counts of pieces, lines and pages
 
@@ -107,6 +108,33 @@ four-and-three-items = refl
 
 two-lines-permitted :
     Permitted small four-and-three
-    (record { spots = record { line = 0; column = 4 } ∷ record { line = 1; column = 3 } ∷ []; lines = 2; pages = 1 })
+    (record { spots = record { line = 0; column = 4 } ∷ record { line = 1; column = 3 } ∷ []; lines = 2; pages = 2 ∷ [] })
 unfolding computing four-and-three
 two-lines-permitted = choices-permitted small (omega arith) four-and-three (false ∷ true ∷ [])
+
+-- ---- Pages end after P lines: at P 3 `A$S$SB` has a page of three lines and one of one, however its lines are ended before words
+
+empty-lines : List Item
+empty-lines = word (1 ∷ []) ∷ lineEnd ∷ emptyLine ∷ lineEnd ∷ emptyLine ∷ word (3 ∷ []) ∷ []
+
+empty-lines-items : itemsOf 8 (signsOf (piecesOf table blankFollows (ascii "A$S$SB"))) ≡ empty-lines
+unfolding computing empty-lines
+empty-lines-items = refl
+
+abbrev three : Sheet
+three = record { width = 8; length = 3 }
+
+three-and-one : (layout : Layout) → Permitted three empty-lines layout → layout .pages ≡ 3 ∷ 1 ∷ []
+unfolding computing empty-lines
+three-and-one layout permitted =
+    let c = permitted-by-choices three (omega arith) empty-lines layout permitted in
+    sym (ap (λ (l : Layout). l .pages) (c .same)) ∙ go (c .choices) (c .one-each)
+  where
+    go : (choices : List Bool) → length choices ≡ 2 → layoutOf three (withChoices choices empty-lines) .pages ≡ 3 ∷ 1 ∷ []
+    go [] e = absurd (omega arith)
+    go (a ∷ []) e = absurd (omega arith)
+    go (false ∷ false ∷ []) e = refl
+    go (false ∷ true ∷ []) e = refl
+    go (true ∷ false ∷ []) e = refl
+    go (true ∷ true ∷ []) e = refl
+    go (a ∷ b ∷ c ∷ choices) e = absurd (omega arith)

@@ -24,7 +24,7 @@ use Rattle.pages.specs.Spots.{NoLater}
 use Rattle.pages.specs.Fitting.{wordsIn}
 use Rattle.pages.specs.Right.{PageRight}
 use Rattle.pages.specs.Signs.{isDotted}
-use Rattle.pages.specs.Drawn.{volumeLines, Drawn}
+use Rattle.pages.specs.Drawn.{Shows}
 use Rattle.layout.specs.Emboss.{written, pieces, lines, pages, bytesOf}
 use Rattle.layout.specs.declared.Answer.{Answer}
 use Rattle.pages.specs.declared.Sheet.{Sheet}
@@ -82,11 +82,11 @@ pub record LaysOut (image text : List ℕ) (sheet : Sheet) (answer : Answer) (af
   pub pages : length (pagesOf (wrote answer after)) ≡ pages answer
   pub signs : only isDotted (flatten (flatten (pagesOf (wrote answer after)))) ≡ only isDotted (signsOf (textPieces image text))
 
--- demand 3: the layout that the written bytes draw is permitted; no permitted layout has a word earlier, fewer lines or fewer pages
+-- demand 3: the layout that the written bytes show, page by page, is permitted; no permitted layout has a word earlier, fewer lines or fewer pages
 pub record Earliest (image text : List ℕ) (sheet : Sheet) (answer : Answer) (after : List ℕ) : Type 0 where
   pub ours : Layout
-  pub drawn : Drawn (volumeLines (wrote answer after)) (wordsIn (textItems image text sheet)) (ours .spots)
+  pub shown : Shows (wrote answer after) (wordsIn (textItems image text sheet)) ours
   pub lines : ours .lines ≡ lines answer
-  pub pages : ours .pages ≡ pages answer
+  pub pages : length (ours .pages) ≡ pages answer
   pub permitted : Permitted sheet (textItems image text sheet) ours
   pub no-later : (other : Layout) → Permitted sheet (textItems image text sheet) other → NoLater ours other

@@ -57,7 +57,7 @@ module _ (sheet : Sheet) (p : Place) where
   unfolding count afterCells afterPage
   counted =
       record {
-        cells = λ bytes words spots q blanks w fits h r.
+        cells = λ bytes words spots q blanks w fits h apart r.
             let cells = cells-after blanks fits in
             record {
               written = rw (length-append, length-cells-after blanks w) (omega arith);

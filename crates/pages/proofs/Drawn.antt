@@ -1,5 +1,5 @@
--- The spots of our layout are those of the bytes. The invariant: what the stack has so far is drawn, and the place says where its line stands in the
--- volume. A word goes on the end of that line, so no word before it moves; an empty line at the end shows nothing.
+-- The bytes show our layout. The invariant: what the stack has so far is drawn, and the place says where its line stands in the volume. A word goes on the
+-- end of that line, so no word before it moves; an empty line at the end shows nothing.
 use Prim.Native.Nat.{ℕ, zero, suc, _+_, _-_, _≤_, _<_}
 use mathlib.Core.Bool.{Bool}
 use mathlib.Core.List.{List, [], _∷_, _++_, append-assoc, append-nil, flatten}
@@ -10,18 +10,22 @@ use native.Mathlib.Decide.{ℕ-discrete, decLt}
 use lib.ListN.{length, getD, drop, replicate, length-append, length-drop, length-replicate, getD-replicate, List·getD-append}
 use lib.Seq.{take-length, take-append-le, drop-append-le, drop-at, getD-at, getD-append-add}
 use Rattle.table.specs.Numbers.{blankCell}
+use Rattle.table.specs.Lists.{All, empty, _and_}
+use Rattle.table.proofs.Lists.{all-append, all-at}
+use Rattle.pages.specs.Numbers.{gapBlanks}
 use Rattle.pages.specs.Words.{Item}
 use Rattle.pages.specs.Place.{start, afterPage, afterCells, cellsAfter, volume}
 use Rattle.pages.specs.Pages.{Line}
 use Rattle.pages.specs.Permitted.{Spot}
-use Rattle.pages.specs.Spots.{spotsFrom, withChoices}
+use Rattle.pages.specs.Spots.{spotsFrom, layoutOf, withChoices}
 use Rattle.pages.specs.Fitting.{Fitting, wordsIn}
-use Rattle.pages.specs.Drawn.{volumeLines, lineAt, wordAt, spotAt, StandsIn, LiesIn, WordOrBlank, in-word, is-blank, Drawn}
+use Rattle.pages.specs.Drawn.{volumeLines, lineAt, wordAt, spotAt, StandsIn, LiesIn, WordOrBlank, in-word, is-blank, Follows, on-later-line, after-blank, Drawn, Shows}
 use Rattle.pages.specs.declared.Place.{Place}
 use Rattle.pages.proofs.Lists.{flatten-append}
 use Rattle.pages.proofs.Kept.{Kept, volume-keeps}
-use Rattle.pages.proofs.Counts.{cells-after}
-use Rattle.pages.proofs.Volume.{Stack, unmarked, fed, turned, read, reads, reads-append, reads-cells, nil-of-length, Standing, standing-kept, unmarked-standing, volume-stack}
+use Rattle.pages.proofs.Counts.{cells-after, lines-are-64s}
+use Rattle.pages.proofs.Ended.{pages-are-the-bytes}
+use Rattle.pages.proofs.Volume.{Stack, unmarked, fed, turned, read, reads, reads-append, reads-cells, nil-of-length, Standing, standing-kept, unmarked-standing, volume-stack, lines-counted}
 use Rattle.pages.proofs.Words.{choices-keep-words, fitting-with-choices}
 use Rattle.pages.specs.declared.Sheet.{Sheet}
 
@@ -34,6 +38,7 @@ same-lines {lines} {others} {words} {spots} same d =
     record {
       as-many = d .as-many;
       words-stand = λ i h. rw same (d .words-stand i h);
+      in-order = d .in-order;
       others-blank = λ l x h. go l x (d .others-blank l x (rw (same l) at h));
     }
   where
@@ -80,7 +85,8 @@ last-holds line blanks w =
     }
 
 module _ (lines : List Line) (line : Line) (words : List (List ℕ)) (spots : List Spot) (d : Drawn (lines ++ line ∷ []) words spots)
-    (blanks : ℕ) (w : List ℕ) (s : Spot) (number : s .line ≡ length lines) (column : s .column ≡ length line + blanks + length w) where
+    (filled : All (λ v. 1 ≤ length v) words) (blanks : ℕ) (w : List ℕ) (apart : 0 < length line → gapBlanks ≤ blanks) (s : Spot)
+    (number : s .line ≡ length lines) (column : s .column ≡ length line + blanks + length w) where
   abbrev longer : Line
   longer = line ++ cellsAfter blanks w
 
@@ -124,6 +130,45 @@ module _ (lines : List Line) (line : Line) (words : List (List ℕ)) (spots : Li
       go (no l) =
           let last : i ≡ length words = omega (arith, simp length-append at h) in
           rw (last, last-word, last-spot, here (s .line) longer number, column) (last-holds line blanks w)
+
+  -- a line that holds a cell has a number
+  held-line : (ls : List Line) (l : ℕ) → 0 < length (lineAt ls l) → l < length ls
+  held-line [] zero h = absurd (omega arith)
+  held-line [] (suc l) h = absurd (omega arith)
+  held-line (x ∷ ls) zero h = omega arith
+  held-line (x ∷ ls) (suc l) h = let k = held-line ls l h in omega arith
+
+  -- an earlier word ended on an earlier line, or on this one before its end
+  follows-earlier : (i : ℕ) → i < length words → Follows (spotAt spots i) s (length w)
+  follows-earlier i h = go (decLt (spotAt spots i .line) (length lines))
+    where
+      there : StandsIn (lineAt before (spotAt spots i .line)) (wordAt words i) (spotAt spots i .column)
+      there = d .words-stand i h
+
+      some : 1 ≤ length (wordAt words i)
+      some = all-at filled i [] h
+
+      number-of : spotAt spots i .line < length before
+      number-of = held-line before (spotAt spots i .line) (omega (arith, there .least, there .most, some))
+
+      go : Dec (spotAt spots i .line < length lines) → Follows (spotAt spots i) s (length w)
+      go (yes l) = on-later-line (omega arith)
+      go (no l) =
+          let k : spotAt spots i .line < length lines + 1 = rw length-append at number-of in
+          let e : spotAt spots i .line ≡ length lines = omega arith in
+          let ends : spotAt spots i .column ≤ length line = rw (here (spotAt spots i .line) line e) at (there .most) in
+          let gap = apart (omega (arith, there .least, some, ends)) in
+          after-blank (omega arith) (omega arith)
+
+  order : (i j : ℕ) → i < j → j < length (words ++ w ∷ [])
+      → Follows (spotAt (spots ++ s ∷ []) i) (spotAt (spots ++ s ∷ []) j) (length (wordAt (words ++ w ∷ []) j))
+  order i j h k = go (decLt j (length words))
+    where
+      go : Dec (j < length words) → Follows (spotAt (spots ++ s ∷ []) i) (spotAt (spots ++ s ∷ []) j) (length (wordAt (words ++ w ∷ []) j))
+      go (yes l) = rw (earlier-word j l, earlier-spot j l, earlier-spot i (omega arith)) (d .in-order i j h l)
+      go (no l) =
+          let last : j ≡ length words = omega (arith, simp length-append at k) in
+          rw (last, last-word, last-spot, earlier-spot i (omega arith)) (follows-earlier i (omega arith))
 
   lies-as-before : (l x i : ℕ) → LiesIn words spots l x i → LiesIn (words ++ w ∷ []) (spots ++ s ∷ []) l x i
   lies-as-before l x i r =
@@ -186,6 +231,7 @@ module _ (lines : List Line) (line : Line) (words : List (List ℕ)) (spots : Li
       record {
         as-many = let e = d .as-many in simp length-append (omega arith);
         words-stand = stand;
+        in-order = order;
         others-blank = blank;
       }
 
@@ -205,24 +251,27 @@ module _ (s : Stack) (words : List (List ℕ)) (spots : List Spot) (d : Drawn (s
 
 record Placed (sheet : Sheet) (bytes : List ℕ) (words : List (List ℕ)) (spots : List Spot) (p : Place) : Type 0 where
   standing : Standing sheet bytes (reads unmarked bytes) p
+  filled : All (λ v. 1 ≤ length v) words
   drawn : Drawn (stackLines (reads unmarked bytes)) words spots
 
 placed-kept : (sheet : Sheet) → Kept sheet (Placed sheet)
 unfolding reads read flatten afterPage afterCells
 placed-kept sheet =
     record {
-      cells = λ bytes words spots p blanks w fits h r.
+      cells = λ bytes words spots p blanks w fits h apart r.
           let s = reads unmarked bytes in
           let st = r .standing in
           record {
-            standing = standing-kept sheet .cells bytes words spots p blanks w fits h (r .standing);
+            standing = standing-kept sheet .cells bytes words spots p blanks w fits h apart (r .standing);
+            filled = all-append (r .filled) (fits .least and empty);
             drawn =
-                let on = drawn-on (flatten (s .pages) ++ s .lines) (s .line) words spots (r .drawn) blanks w in
+                let on = drawn-on (flatten (s .pages) ++ s .lines) (s .line) words spots (r .drawn) (r .filled) blanks w (λ c. apart (omega arith)) in
                 rw (reads-append unmarked bytes, reads-cells s (cells-after blanks fits)) (on _ (rw length-append (omega arith)) (omega arith));
           };
       line = λ bytes words spots p h r.
           record {
             standing = standing-kept sheet .line bytes words spots p h (r .standing);
+            filled = r .filled;
             drawn = rw (reads-append unmarked bytes) (fed-drawn (reads unmarked bytes) words spots (r .drawn));
           };
       page = λ bytes words spots p c l m r.
@@ -230,13 +279,21 @@ placed-kept sheet =
           let st = r .standing in
           record {
             standing = standing-kept sheet .page bytes words spots p c l m (r .standing);
+            filled = r .filled;
             drawn = rw (reads-append unmarked bytes) (turned-drawn s words spots (r .drawn) (nil-of-length (s .line) (omega arith)));
           };
-      opens = λ bytes words spots p r. record { standing = standing-kept sheet .opens bytes words spots p (r .standing); drawn = r .drawn };
+      opens = λ bytes words spots p r.
+          record { standing = standing-kept sheet .opens bytes words spots p (r .standing); filled = r .filled; drawn = r .drawn };
     }
 
 nothing-drawn : Drawn ([] ∷ []) [] []
-nothing-drawn = record { as-many = refl; words-stand = λ i h. absurd (omega arith); others-blank = λ l x h. is-blank (none l x h) }
+nothing-drawn =
+    record {
+      as-many = refl;
+      words-stand = λ i h. absurd (omega arith);
+      in-order = λ i j h k. absurd (omega arith);
+      others-blank = λ l x h. is-blank (none l x h);
+    }
   where
     none : (l x : ℕ) → x < length (lineAt ([] ∷ []) l) → getD (lineAt ([] ∷ []) l) x blankCell ≡ blankCell
     none zero x h = refl
@@ -247,11 +304,22 @@ pub spots-are-the-bytes : (sheet : Sheet) (items : List Item) → Fitting (sheet
     → Drawn (volumeLines (volume sheet items)) (wordsIn items) (spotsFrom sheet start items)
 unfolding reads flatten
 spots-are-the-bytes sheet items fits room =
-    let placed = volume-keeps sheet _ (placed-kept sheet) items fits room (record { standing = unmarked-standing sheet; drawn = nothing-drawn }) in
+    let placed = volume-keeps sheet _ (placed-kept sheet) items fits room (record { standing = unmarked-standing sheet; filled = empty; drawn = nothing-drawn }) in
     same-lines (λ l. sym (empty-at-end (volumeLines (volume sheet items)) l)) (rw (volume-stack sheet items fits room, append-nil) at (placed .drawn))
 
--- so are those of every layout by choices, of the same words
+-- the bytes show our layout: its spots, its lines, and the lines of each of its pages
+pub bytes-show-the-layout : (sheet : Sheet) (items : List Item) → Fitting (sheet .width) items → 0 < sheet .length
+    → Shows (volume sheet items) (wordsIn items) (layoutOf sheet items)
+unfolding layoutOf
+bytes-show-the-layout sheet items fits room =
+    record {
+      drawn = spots-are-the-bytes sheet items fits room;
+      lines = lines-counted sheet items fits room ∙ sym (lines-are-64s sheet items fits room);
+      pages = pages-are-the-bytes sheet items fits room;
+    }
+
+-- so they do of every layout by choices, of the same words
 pub choices-are-the-bytes : (sheet : Sheet) (items : List Item) → Fitting (sheet .width) items → 0 < sheet .length → (choices : List Bool)
-    → let chosen = withChoices choices items in Drawn (volumeLines (volume sheet chosen)) (wordsIn items) (spotsFrom sheet start chosen)
+    → let chosen = withChoices choices items in Shows (volume sheet chosen) (wordsIn items) (layoutOf sheet chosen)
 choices-are-the-bytes sheet items fits room choices =
-    rw (choices-keep-words choices items) at (spots-are-the-bytes sheet (withChoices choices items) (fitting-with-choices choices items fits) room)
+    rw (choices-keep-words choices items) at (bytes-show-the-layout sheet (withChoices choices items) (fitting-with-choices choices items fits) room)

@@ -32,7 +32,7 @@ opened p = record { column = p .column; line = p .line; opening = true; written 
 
 pub record Kept (sheet : Sheet) (R : List ℕ → List (List ℕ) → List Spot → Place → Type 0) : Type 0 where
   pub cells : (bytes : List ℕ) (words : List (List ℕ)) (spots : List Spot) (p : Place) (blanks : ℕ) (w : List ℕ) → WordFits (sheet .width) w
-      → p .column + blanks + length w ≤ sheet .width → R bytes words spots p
+      → p .column + blanks + length w ≤ sheet .width → (0 < p .column → gapBlanks ≤ blanks) → R bytes words spots p
       → R (bytes ++ cellsAfter blanks w) (words ++ w ∷ []) (spots ++ spot (afterCells p blanks (length w)) ∷ []) (afterCells p blanks (length w))
   pub line : (bytes : List ℕ) (words : List (List ℕ)) (spots : List Spot) (p : Place) → p .line < sheet .length → R bytes words spots p
       → R (bytes ++ lineMark ∷ []) words spots (lined p)
@@ -146,16 +146,16 @@ module _ (sheet : Sheet) (R : List ℕ → List (List ℕ) → List Spot → Pla
 
   module _ (bytes : List ℕ) (words : List (List ℕ)) (spots : List Spot) (p : Place) (held : Held bytes words spots p) (w : List ℕ)
       (fits : WordFits (sheet .width) w) where
-    cells-kept : (blanks : ℕ) → p .column + blanks + length w ≤ sheet .width → let q = afterCells p blanks (length w) in
+    cells-kept : (blanks : ℕ) → p .column + blanks + length w ≤ sheet .width → (0 < p .column → gapBlanks ≤ blanks) → let q = afterCells p blanks (length w) in
         Held (bytes ++ cellsAfter blanks w) (words ++ w ∷ []) (spots ++ spot q ∷ []) q
     unfolding afterCells
-    cells-kept blanks h = record { room = held .room; holds = kept .cells bytes words spots p blanks w fits h (held .holds) }
+    cells-kept blanks h apart = record { room = held .room; holds = kept .cells bytes words spots p blanks w fits h apart (held .holds) }
 
     opening-kept : p .column ≡ 0 → let blanks = openingBlanks sheet p (length w) in let q = afterCells p blanks (length w) in
         Held (bytes ++ cellsAfter blanks w) (words ++ w ∷ []) (spots ++ spot q ∷ []) q
     opening-kept h =
         let l = opening-fits sheet p (length w) (fits .most) in
-        cells-kept (openingBlanks sheet p (length w)) (omega arith)
+        cells-kept (openingBlanks sheet p (length w)) (omega arith) (λ c. omega arith)
 
   module _ (bytes : List ℕ) (words : List (List ℕ)) (spots : List Spot) (p : Place) (held : Held bytes words spots p) (w : List ℕ)
       (fits : WordFits (sheet .width) w) where
@@ -167,7 +167,7 @@ module _ (sheet : Sheet) (R : List ℕ → List (List ℕ) → List Spot → Pla
         Goal = let q = afterWord sheet p (length w) in Held (bytes ++ bytesOfWord sheet p w) (words ++ w ∷ []) (spots ++ spot q ∷ []) q
 
         go : (b c : Bool) → ltb 0 (p .column) ≡ b → leb (p .column + gapBlanks + length w) (sheet .width) ≡ c → Goal
-        go true true e f = rw (e, f) (cells-kept bytes words spots p held w fits gapBlanks (leb-true _ _ f))
+        go true true e f = rw (e, f) (cells-kept bytes words spots p held w fits gapBlanks (leb-true _ _ f) (λ c. omega arith))
         go true false e f =
             let r = line-kept bytes words spots p held in
             let c = line-is-fresh sheet p (held .room) .empty in

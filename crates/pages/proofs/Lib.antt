@@ -1,5 +1,6 @@
 pub mod Moves
 pub mod Formats
+pub mod Ended
 pub mod Permitted
 pub mod NoLater
 pub mod Lists

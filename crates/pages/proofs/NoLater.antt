@@ -19,6 +19,7 @@ use Rattle.pages.specs.Permitted.{Layout, Permitted}
 use Rattle.pages.specs.Spots.{spot, spotAfter, spotsFrom, layoutOf, withChoices, NoLaterSpot, NoLaterSpots, no-word, each-word, NoLater}
 use Rattle.pages.specs.declared.Place.{Place}
 use Rattle.pages.proofs.Moves as Moves
+use Rattle.pages.proofs.Ended.{volume-sizes-counted}
 use Rattle.pages.proofs.Permitted.{permitted-by-choices}
 use Rattle.pages.specs.declared.Sheet.{Sheet}
 
@@ -504,7 +505,10 @@ module _ (sheet : Sheet) (page : 0 < sheet .length) (items : List Item) where
   unfolding layoutOf volumeEnd
   no-later-by-choices choices =
       let r = compared sheet choices items start start at-start in
-      record { spots = r .spots; lines = no-later-spot sheet (r .behind) .line; pages = no-more-pages sheet (r .behind) }
+      let ours = volume-sizes-counted sheet items page in
+      let theirs = volume-sizes-counted sheet (withChoices choices items) page in
+      let fewer = no-more-pages sheet (r .behind) in
+      record { spots = r .spots; lines = no-later-spot sheet (r .behind) .line; pages = omega (arith, ours, theirs, fewer) }
 
   -- for every permitted layout of the same words and format signs, ours is no later
   pub no-later : (layout : Layout) → Permitted sheet items layout → NoLater (layoutOf sheet items) layout

@@ -23,7 +23,7 @@ cut-sized {W} wide (suc n) cells least enough = go (leb (length cells) W) refl (
     go : (b : Bool) → leb (length cells) W ≡ b
         → (1 ≤ length (drop W cells) → length (drop W cells) ≤ n → Sized W (cutWithin n W (drop W cells)))
         → Sized W (cutWithin (suc n) W cells)
-    go true e later = rw (e, cutWithin) (last least (leb-true (length cells) W e))
+    go true e later = rw (e, cutWithin) (last {part = cells} (omega arith) (leb-true (length cells) W e))
     go false e later =
         let over = leb-false (length cells) W e in
         let front = length-take W cells in

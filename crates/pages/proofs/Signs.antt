@@ -41,7 +41,7 @@ dots-kept : (sheet : Sheet) → Kept sheet (λ bytes words spots p. only isDotte
 unfolding only isDotted flatten
 dots-kept sheet =
     record {
-      cells = λ bytes words spots p blanks w fits h r.
+      cells = λ bytes words spots p blanks w fits h apart r.
           rw (only-append isDotted bytes (cellsAfter blanks w), dots-after blanks fits, flatten-append words (w ∷ []), append-nil, r);
       line = λ bytes words spots p h r. rw (only-append, append-nil) r;
       page = λ bytes words spots p c l m r. rw (only-append, append-nil) r;

@@ -70,7 +70,7 @@ reads-cells s empty = rw append-nil
 reads-cells s (_and_ {x = c} {xs = cells} h hs) = rw (read-cell s c h, reads-cells (inked s (c ∷ [])) hs, append-assoc)
 
 -- the pages that are read are `pagesOf`'s
-pages-read : (s : Stack) (bytes : List ℕ) → reads s bytes .pages ≡ s .pages ++ pagesFrom (s .lines) (s .line) bytes
+pub pages-read : (s : Stack) (bytes : List ℕ) → reads s bytes .pages ≡ s .pages ++ pagesFrom (s .lines) (s .line) bytes
 unfolding reads read pagesFrom
 pages-read s [] = sym (append-nil (s .pages))
 pages-read s (b ∷ bytes) = go (eqb b pageMark) (eqb b lineMark) refl refl (λ t. pages-read t bytes)
@@ -197,7 +197,7 @@ pub standing-kept : (sheet : Sheet) → Kept sheet (λ bytes words spots p. Stan
 unfolding reads read
 standing-kept sheet =
     record {
-      cells = λ bytes words spots p blanks w fits h r.
+      cells = λ bytes words spots p blanks w fits h apart r.
           let inks = reads-cells (reads unmarked bytes) (cells-after blanks fits) in
           rw (reads-append unmarked bytes, inks) (inked-standing sheet bytes _ p r blanks w fits h);
       line = λ bytes words spots p h r. rw (reads-append unmarked bytes) (fed-standing sheet bytes _ p r);

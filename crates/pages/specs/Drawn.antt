@@ -1,12 +1,13 @@
--- Demand 3, of bytes: a layout's spots are those of the bytes. In the lines of the whole volume each word's cells end on the line and before the
--- column that its spot says, and every other cell is blank.
-use Prim.Native.Nat.{ℕ, _-_, _≤_, _<_}
-use mathlib.Core.List.{List, [], flatten}
+-- Demand 3, of bytes: the bytes show a layout. In the lines of the whole volume each word's cells end on the line and before the column that its spot
+-- says, each word after those before it, and every other cell is blank; and each page has the lines that the layout says.
+use Prim.Native.Nat.{ℕ, _+_, _-_, _≤_, _<_}
+use mathlib.Core.List.{List, [], flatten, map}
 use mathlib.Core.Path.{_≡_}
 use lib.ListN.{length, getD, take, drop}
 use Rattle.table.specs.Numbers.{blankCell}
+use Rattle.pages.specs.Numbers.{gapBlanks}
 use Rattle.pages.specs.Pages.{Line, pagesOf}
-use Rattle.pages.specs.Permitted.{Spot}
+use Rattle.pages.specs.Permitted.{Spot, Layout}
 
 -- the lines of the whole volume: those of its pages, joined
 abbrev pub volumeLines : List ℕ → List Line
@@ -39,8 +40,20 @@ pub data WordOrBlank (lines : List Line) (words : List (List ℕ)) (spots : List
   in-word : {i : ℕ} → LiesIn words spots l x i → WordOrBlank lines words spots l x
   is-blank : getD (lineAt lines l) x blankCell ≡ blankCell → WordOrBlank lines words spots l x
 
--- the words stand where the spots say, and nothing else is there
+-- a word of `n` cells that ends at the spot `b` starts after the spot `a`: on a later line, or on the same line with a blank between
+pub data Follows (a b : Spot) (n : ℕ) : Type 0 where
+  on-later-line : a .line < b .line → Follows a b n
+  after-blank : a .line ≡ b .line → a .column + gapBlanks + n ≤ b .column → Follows a b n
+
+-- the words stand where the spots say, each after those before it, and nothing else is there
 pub record Drawn (lines : List Line) (words : List (List ℕ)) (spots : List Spot) : Type 0 where
   pub as-many : length spots ≡ length words
   pub words-stand : (i : ℕ) → i < length words → StandsIn (lineAt lines (spotAt spots i .line)) (wordAt words i) (spotAt spots i .column)
+  pub in-order : (i j : ℕ) → i < j → j < length words → Follows (spotAt spots i) (spotAt spots j) (length (wordAt words j))
   pub others-blank : (l x : ℕ) → x < length (lineAt lines l) → WordOrBlank lines words spots l x
+
+-- the bytes show the layout
+pub record Shows (bytes : List ℕ) (words : List (List ℕ)) (layout : Layout) : Type 0 where
+  pub drawn : Drawn (volumeLines bytes) words (layout .spots)
+  pub lines : length (volumeLines bytes) ≡ layout .lines
+  pub pages : map length (pagesOf bytes) ≡ layout .pages

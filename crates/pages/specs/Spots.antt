@@ -1,12 +1,12 @@
 -- Demand 3: our layout as a list of spots with its lines and pages, and the layouts by choices: a choice of yes before a word ends its line, if that
 -- holds a cell.
-use Prim.Native.Nat.{ℕ, suc, _≤_}
+use Prim.Native.Nat.{ℕ, suc, _+_, _-_, _≤_}
 use mathlib.Core.Bool.{Bool, true, false}
 use mathlib.Core.List.{List, [], _∷_, _++_}
 use mathlib.Core.Path.{_≡_}
-use lib.ListN.{length}
+use lib.ListN.{length, replicate}
 use Rattle.pages.specs.Words.{Item, word, lineEnd, emptyLine, paragraph, pageEnd}
-use Rattle.pages.specs.Place.{start, afterItem, volumeEnd}
+use Rattle.pages.specs.Place.{start, afterItem, ended, volumeEnd}
 use Rattle.pages.specs.Permitted.{Spot, Layout}
 use Rattle.pages.specs.declared.Place.{Place}
 use Rattle.pages.specs.declared.Sheet.{Sheet}
@@ -28,10 +28,19 @@ unfoldable pub spotsFrom : Sheet → Place → List Item → List Spot
 spotsFrom sheet p [] = []
 spotsFrom sheet p (item ∷ items) = let q = afterItem sheet p item in spotAfter q item ++ spotsFrom sheet q items
 
+-- the lines of the page that ends on the way from one place to another, if one does: those that it had, and those that ended on the way
+unfoldable pub endedPages : Place → Place → List ℕ
+endedPages p q = replicate (q .pages - p .pages) (p .line + (q .lines - p .lines))
+
+-- how many lines each page has, from a place on
+unfoldable pub sizesFrom : Sheet → Place → List Item → List ℕ
+sizesFrom sheet p [] = []
+sizesFrom sheet p (item ∷ items) = let q = afterItem sheet p item in endedPages p q ++ sizesFrom sheet q items
+
 -- our layout
 unfoldable pub layoutOf : Sheet → List Item → Layout
 layoutOf sheet items =
-    record { spots = spotsFrom sheet start items; lines = volumeEnd sheet items .lines; pages = volumeEnd sheet items .pages }
+    record { spots = spotsFrom sheet start items; lines = volumeEnd sheet items .lines; pages = sizesFrom sheet start (ended items) }
 
 -- how many words there are
 unfoldable pub wordCount : List Item → ℕ
@@ -76,4 +85,4 @@ pub data NoLaterSpots : List Spot → List Spot → Type 0 where
 pub record NoLater (a b : Layout) : Type 0 where
   pub spots : NoLaterSpots (a .spots) (b .spots)
   pub lines : a .lines ≤ b .lines
-  pub pages : a .pages ≤ b .pages
+  pub pages : length (a .pages) ≤ length (b .pages)

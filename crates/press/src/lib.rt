@@ -7,7 +7,9 @@ use layout::emboss;
 use pages::Sheet;
 
 // Embosses a text, and stores the answer's six values: number, place, bytes written, pieces, lines,
-// pages. A refused call changes no byte of `out`, and a done one none beyond the bytes written.
+// pages. A refused call changes no byte of `out`, and a done one none beyond the bytes written. It
+// needs 81,000 bytes of stack, whatever it is asked (bench/stack): a thread that calls it wants 96
+// KiB at least.
 #[no_mangle]
 pub extern "C" fn tlopahuexi_emboss(
     image: &[u8],

@@ -1,0 +1,80 @@
+/* How much stack the call needs: it runs in a thread whose stack is filled with a pattern before, and the deepest byte that
+   changed is the depth. What the thread itself needs is measured with a call of an empty function and taken off. The
+   declarations are written out, so that it can be compiled for x86-64 where no headers for that are. */
+typedef unsigned char byte;
+typedef unsigned long size;
+
+extern int printf(const char *form, ...);
+extern void *fopen(const char *path, const char *mode);
+extern size fread(void *to, size each, size count, void *file);
+extern int fclose(void *file);
+extern int pthread_attr_init(void *attr);
+extern int pthread_attr_setstack(void *attr, void *at, size bytes);
+extern int pthread_create(void *thread, const void *attr, void *(*run)(void *), void *given);
+extern int pthread_join(unsigned long thread, void **answer);
+
+extern void tlopahuexi_emboss(const byte *image, size image_length, const byte *text, size text_length, size width, size length,
+                              byte *out, size out_length, unsigned long answer[6]);
+
+enum { STACK = 1 << 20, MOST = 65536 };
+
+static byte stack[STACK] __attribute__((aligned(4096)));
+static byte image[MOST], text[MOST], out[MOST];
+static size image_length, text_length;
+static unsigned long answer[6];
+
+static void *nothing(void *given)
+{
+    return given;
+}
+
+static void *call(void *given)
+{
+    tlopahuexi_emboss(image, image_length, text, text_length, 60, 40, out, sizeof out, answer);
+    return given;
+}
+
+/* The bytes of the stack that a thread changed. */
+static size depth(void *(*run)(void *))
+{
+    unsigned long attr[16], thread;
+    size i;
+    for (i = 0; i < STACK; i++)
+        stack[i] = 0xA5;
+    pthread_attr_init(attr);
+    if (pthread_attr_setstack(attr, stack, STACK) != 0 || pthread_create(&thread, attr, run, 0) != 0)
+        return 0;
+    pthread_join(thread, 0);
+    for (i = 0; i < STACK && stack[i] == 0xA5; i++)
+        ;
+    return STACK - i;
+}
+
+static size contents(const char *path, byte *to)
+{
+    void *file = fopen(path, "rb");
+    size read;
+    if (!file)
+        return 0;
+    read = fread(to, 1, MOST, file);
+    fclose(file);
+    return read;
+}
+
+/* stack IMAGE TEXT..: the depth of a call for each text. */
+int main(int words, char **word)
+{
+    size empty, deep;
+    int i;
+    if (words < 3 || (image_length = contents(word[1], image)) == 0)
+        return 2;
+    empty = depth(nothing);
+    for (i = 2; i < words; i++) {
+        text_length = contents(word[i], text);
+        deep = depth(call);
+        if (empty == 0 || deep == 0)
+            return 1;
+        printf("%8lu bytes of stack: %lu bytes of text, answer %lu at %lu\n", deep - empty, text_length, answer[0], answer[1]);
+    }
+    return 0;
+}
