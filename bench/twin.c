@@ -146,41 +146,84 @@ static int byte_right(enum kind kind, size classes, uint8_t b)
     }
 }
 
-static int bytes_right(const uint8_t *bytes, size n, enum kind kind, size classes)
+/* The first byte that isn't of this kind, or -1. */
+static int bytes_wrong(const uint8_t *bytes, size n, enum kind kind, size classes)
 {
     size j;
 
     for (j = 0; j < n; j++)
         if (!byte_right(kind, classes, bytes[j]))
-            return 0;
-    return 1;
+            return j;
+    return -1;
 }
 
-static int string_right(const uint8_t *string, const uint16_t letters[256], size length)
+static int string_wrong(const uint8_t *string, const uint16_t letters[256], size length)
 {
     size i;
 
     for (i = 0; i < 10; i++)
         if (i < length ? letters[string[i]] == 0 : string[i] != 0)
-            return 0;
-    return 1;
+            return i;
+    return -1;
 }
 
-static int letter_right(const uint8_t *r, const struct sections *s, const uint16_t letters[256], size k)
+static int context_right(const struct sections *s, size length, uint8_t context)
 {
-    return symbol_right(r[0]) && letters[r[0]] == k + 1 && class_right(s->classes, r[1]) && letter_sign_right(r[2]);
+    return context <= s->contexts.records && (context == 0 || length != 10);
 }
 
-static int entry_right(const uint8_t *r, const struct sections *s, const uint16_t letters[256])
+static int signs_wrong(const uint8_t *signs)
 {
-    return 1 <= r[0] && r[0] <= 10 && string_right(r + 1, letters, r[0]) && r[11] <= s->contexts.records && (r[11] == 0 || r[0] != 10) &&
-           class_right(s->classes, r[12]) && 1 <= r[13] && r[13] <= r[0] && entry_sign_right(r[14]) && sign_after_right(r[14], r[15]) &&
-           sign_after_right(r[15], r[16]) && sign_after_right(r[16], r[17]);
+    uint8_t before = 0;
+    int i;
+
+    for (i = 0; i < 4; i++) {
+        if (!sign_after_right(before, signs[i]))
+            return i;
+        before = signs[i];
+    }
+    return -1;
 }
 
-static int decision_right(const uint8_t *r, const struct sections *s)
+/* The first wrong byte of a record of each kind, or -1. */
+static int letter_wrong(const uint8_t *r, const struct sections *s, const uint16_t letters[256], size k)
 {
-    return bytes_right(r, s->classes, DECISION, 0) && bytes_right(r + s->classes, s->variables, CONDITION, 0);
+    if (!symbol_right(r[0]) || letters[r[0]] != k + 1)
+        return 0;
+    if (!class_right(s->classes, r[1]))
+        return 1;
+    if (!letter_sign_right(r[2]))
+        return 2;
+    return -1;
+}
+
+static int entry_wrong(const uint8_t *r, const struct sections *s, const uint16_t letters[256])
+{
+    int i;
+
+    if (r[0] < 1 || 10 < r[0])
+        return 0;
+    i = string_wrong(r + 1, letters, r[0]);
+    if (i >= 0)
+        return 1 + i;
+    if (!context_right(s, r[0], r[11]))
+        return 11;
+    if (!class_right(s->classes, r[12]))
+        return 12;
+    if (r[13] < 1 || r[0] < r[13])
+        return 13;
+    i = signs_wrong(r + 14);
+    return i >= 0 ? 14 + i : -1;
+}
+
+static int decision_wrong(const uint8_t *r, const struct sections *s)
+{
+    int j = bytes_wrong(r, s->classes, DECISION, 0);
+
+    if (j >= 0)
+        return j;
+    j = bytes_wrong(r + s->classes, s->variables, CONDITION, 0);
+    return j >= 0 ? s->classes + j : -1;
 }
 
 static const struct section *section_at(const struct sections *s, int i)
@@ -199,36 +242,55 @@ static const struct section *section_at(const struct sections *s, int i)
     }
 }
 
-static int record_right(const uint8_t *r, const struct sections *s, const uint16_t letters[256], int i, size k)
+static int record_wrong(const uint8_t *r, const struct sections *s, const uint16_t letters[256], int i, size k)
 {
     switch (i) {
     case 0:
-        return letter_right(r, s, letters, k);
+        return letter_wrong(r, s, letters, k);
     case 1:
-        return entry_right(r, s, letters);
+        return entry_wrong(r, s, letters);
     case 2:
-        return bytes_right(r, 4, CLASS, s->classes);
+        return bytes_wrong(r, 4, CLASS, s->classes);
     case 3:
-        return bytes_right(r, s->classes, TRANSITION, 0);
+        return bytes_wrong(r, s->classes, TRANSITION, 0);
     default:
-        return decision_right(r, s);
+        return decision_wrong(r, s);
     }
 }
 
-/* The offset of the first wrong record, or -1. */
-static int64_t first_wrong(const uint8_t *image, const struct sections *s, const uint16_t letters[256])
+/* A wrong record: its section, its number there, and its first wrong byte, -1 where none is wrong. */
+struct wrong {
+    int section;
+    size record;
+    int byte;
+};
+
+/* The first wrong record of a section. */
+static struct wrong wrong_in(const uint8_t *image, const struct sections *s, const uint16_t letters[256], int i)
 {
-    const struct section *section;
-    size k;
+    const struct section *section = section_at(s, i);
+    struct wrong w = {i, 0, -1};
+
+    for (; w.record < section->records; w.record++) {
+        w.byte = record_wrong(record(image, section, w.record), s, letters, i, w.record);
+        if (w.byte >= 0)
+            return w;
+    }
+    return w;
+}
+
+/* The first wrong record in image order. */
+static struct wrong first_wrong(const uint8_t *image, const struct sections *s, const uint16_t letters[256])
+{
+    struct wrong w;
     int i;
 
     for (i = 0; i < 5; i++) {
-        section = section_at(s, i);
-        for (k = 0; k < section->records; k++)
-            if (!record_right(record(image, section, k), s, letters, i, k))
-                return offset_of(section, k);
+        w = wrong_in(image, s, letters, i);
+        if (w.byte >= 0)
+            return w;
     }
-    return -1;
+    return w;
 }
 
 /* ---- table: grouping (groups) */
@@ -292,16 +354,33 @@ static struct fault fault_at(size number, size place)
     return f;
 }
 
+/* The number of a wrong record of a section. */
+static size number_in(int i)
+{
+    switch (i) {
+    case 0:
+        return 2;
+    case 1:
+        return 11;
+    case 2:
+        return 12;
+    case 3:
+        return 13;
+    default:
+        return 14;
+    }
+}
+
 static struct fault judged(const uint8_t *image, const struct sections *s)
 {
     uint16_t letters[256];
-    int64_t wrong;
+    struct wrong w;
     size r;
 
     letters_by_symbol(image, s, letters);
-    wrong = first_wrong(image, s, letters);
-    if (wrong >= 0)
-        return fault_at(2, wrong);
+    w = first_wrong(image, s, letters);
+    if (w.byte >= 0)
+        return fault_at(number_in(w.section), offset_of(section_at(s, w.section), w.record) + w.byte);
     if (letters[' '] == 0)
         return fault_at(3, 0);
     r = first_break(image, s);

@@ -16,11 +16,6 @@ macro_rules! counted {
 counted! {
     /// Something that happened on the way to an answer.
     Event, EVENT_WORDS {
-        WrongAlphabet: "answer 2 in the alphabet",
-        WrongContraction: "answer 2 in the contractions",
-        WrongContext: "answer 2 in the right contexts",
-        WrongTransition: "answer 2 in the transitions",
-        WrongDecision: "answer 2 in the decisions",
         UnderTrailer: "images under 14 bytes",
         AloneMark: "wrong alone: the trailer's last two bytes",
         AloneClasses: "wrong alone: the number of classes",
@@ -47,8 +42,27 @@ counted! {
         AloneShift: "wrong alone: a shift",
         AloneSign: "wrong alone: a sign of an entry",
         AloneAfter99: "wrong alone: a sign after a 99",
+        AloneContextClass: "wrong alone: a class of a right context",
+        AloneTransitionByte: "wrong alone: a transition byte",
         AloneVariableByte: "wrong alone: a decision byte for a variable",
         AloneClassByte: "wrong alone: a decision byte for a class",
+        FirstSymbol: "first of several wrong bytes: a symbol",
+        FirstLetterClass: "first of several wrong bytes: the class of an alphabet record",
+        FirstLength: "first of several wrong bytes: the length of a string",
+        FirstString: "first of several wrong bytes: a string's character",
+        FirstPast: "first of several wrong bytes: a byte past the string",
+        FirstNoContext: "first of several wrong bytes: a right context that does not exist",
+        FirstContextAtTen: "first of several wrong bytes: a right context after ten characters",
+        FirstEntryClass: "first of several wrong bytes: the class of an entry",
+        FirstShift: "first of several wrong bytes: a shift",
+        FirstSign: "first of several wrong bytes: a sign of an entry",
+        FirstAfter99: "first of several wrong bytes: a sign after a 99",
+        FirstContextClass: "first of several wrong bytes: a class of a right context",
+        FirstTransitionByte: "first of several wrong bytes: a transition byte",
+        FirstClassByte: "first of several wrong bytes: a decision byte for a class",
+        FirstVariableByte: "first of several wrong bytes: a decision byte for a variable",
+        WrongLater: "wrong records after a right one of their section",
+        WrongInTwoSections: "wrong records in two sections",
         FullAlphabet: "tables of 63 alphabet records",
         FullContractions: "tables of 1,199 entries",
         FullContexts: "tables of 5 right contexts",
@@ -123,8 +137,24 @@ impl Notes {
 
     /// Only what was wrong with the table, for a case that was refused.
     pub fn add_wrong_table(&mut self, other: &Notes) {
-        for event in 0..=Event::AloneClassByte as usize {
+        for event in 0..=Event::WrongInTwoSections as usize {
             self.counts[event] += other.counts[event];
+        }
+    }
+
+    /// Notes of a wrong record, number `index` of its section, the rule that is broken alone; where several bytes
+    /// are wrong, of what kind the first is.
+    pub fn wrong_record(&mut self, index: usize, wrong: &[(usize, Event)]) {
+        if index > 0 {
+            self.note(Event::WrongLater);
+        }
+        let (first, rule) = wrong.iter().copied().min_by_key(|(byte, _)| *byte).expect("a byte is wrong");
+        if wrong.iter().all(|(_, other)| *other == rule) {
+            self.note(rule);
+        }
+        let alone_there = wrong.iter().filter(|(byte, _)| *byte == first).count() == 1;
+        if alone_there && wrong.len() > 1 {
+            self.note(first_of_several(rule));
         }
     }
 
@@ -139,5 +169,28 @@ impl Notes {
             }
             _ => false,
         }
+    }
+}
+
+/// The event of a byte that breaks this rule and stands before other wrong bytes of its record.
+fn first_of_several(rule: Event) -> Event {
+    match rule {
+        Event::AloneSymbol | Event::AloneBar | Event::AloneRepeated => Event::FirstSymbol,
+        Event::AloneLetterClass => Event::FirstLetterClass,
+        Event::AloneLength => Event::FirstLength,
+        Event::AloneString => Event::FirstString,
+        Event::AlonePast => Event::FirstPast,
+        Event::AloneNoContext => Event::FirstNoContext,
+        Event::AloneContextAtTen => Event::FirstContextAtTen,
+        Event::AloneEntryClass => Event::FirstEntryClass,
+        Event::AloneShift => Event::FirstShift,
+        Event::AloneSign => Event::FirstSign,
+        Event::AloneAfter99 => Event::FirstAfter99,
+        Event::AloneContextClass => Event::FirstContextClass,
+        Event::AloneTransitionByte => Event::FirstTransitionByte,
+        Event::AloneClassByte => Event::FirstClassByte,
+        Event::AloneVariableByte => Event::FirstVariableByte,
+        // An alphabet record's sign is its last byte, and the other rules are of the frame.
+        _ => unreachable!("{rule:?} stands before no byte of its record"),
     }
 }

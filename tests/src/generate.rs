@@ -82,6 +82,9 @@ counted! {
         WrongEntry: "images with a field of an entry on its limit or beyond",
         WrongLetter: "images with a field of a letter on its limit or beyond",
         WrongRule: "images with another byte in a context, transition or decision",
+        WrongEntryTwice: "images with two fields and more of an entry on their limits or beyond",
+        BytesOfRecord: "images with two bytes and more of a record changed",
+        TwoRecords: "images with a byte changed in each of two sections",
         ByteChanged: "images with one byte of a section changed",
         TrailerByteChanged: "images with one byte of the trailer changed",
         Exchanged: "images with two records exchanged",
@@ -171,11 +174,19 @@ fn image(random: &mut Random, sound: &Table, kinds: &mut Vec<Kind>) -> Vec<u8> {
             }
             (if in_any_order { Kind::NoBlankUngrouped } else { Kind::NoBlank }, table.image())
         }
-        73..=78 if !table.entries.is_empty() => {
-            wrong_entry(random, &mut table);
+        73..=76 if !table.entries.is_empty() => {
+            let chosen = random.between(0, table.entries.len() - 1);
+            wrong_entry(random, &mut table, chosen);
             (Kind::WrongEntry, table.image())
         }
-        79..=81 => {
+        77..=79 if !table.entries.is_empty() => {
+            let chosen = random.between(0, table.entries.len() - 1);
+            for _ in 0..random.between(2, 4) {
+                wrong_entry(random, &mut table, chosen);
+            }
+            (Kind::WrongEntryTwice, table.image())
+        }
+        80..=81 => {
             wrong_letter(random, &mut table);
             (Kind::WrongLetter, table.image())
         }
@@ -421,9 +432,8 @@ fn wrong_letter(random: &mut Random, table: &mut Table) {
     }
 }
 
-/// One field of one contraction record on, or just beyond, its limit.
-fn wrong_entry(random: &mut Random, table: &mut Table) {
-    let chosen = random.between(0, table.entries.len() - 1);
+/// One field of this contraction record on, or just beyond, its limit.
+fn wrong_entry(random: &mut Random, table: &mut Table, chosen: usize) {
     let contexts = table.contexts.len() as u8;
     let classes = table.classes;
     let entry = &mut table.entries[chosen];
@@ -435,7 +445,7 @@ fn wrong_entry(random: &mut Random, table: &mut Table) {
         3 => {
             let character = entry.string[0];
             entry.string.resize(10, character);
-            entry.context = random.any(&[0, 1, contexts]);
+            entry.context = random.any(&[0, 1, contexts, contexts]);
         }
         // The length byte says 11, and the eleventh character gives way to the context.
         4 => {
@@ -473,7 +483,7 @@ fn wrong_rule(random: &mut Random, table: &mut Table) {
     }
 }
 
-/// The image of a sound table, damaged in one of its bytes, its records, its length or its distances.
+/// The image of a sound table, damaged in one of its bytes or in some, in its records, its length or its distances.
 fn damaged(random: &mut Random, table: &Table) -> (Kind, Vec<u8>) {
     let mut image = table.image();
     let sections = table.sections();
@@ -481,12 +491,33 @@ fn damaged(random: &mut Random, table: &Table) -> (Kind, Vec<u8>) {
     let sizes = [3, 18, 4, classes, classes + table.variables as usize];
     let start = |section: usize| sections[..section].iter().map(Vec::len).sum::<usize>();
     let filled: Vec<usize> = (0..5).filter(|section| !sections[*section].is_empty()).collect();
-    let kind = match random.between(0, 19) {
+    let kind = match random.between(0, 26) {
         0..=8 => {
             let section = random.any(&filled);
             let at = start(section) + random.between(0, sections[section].len() - 1);
             image[at] = one_byte(random, image[at]);
             Kind::ByteChanged
+        }
+        // anywhere in the record, or from one of its bytes on
+        20..=24 => {
+            let section = random.any(&filled);
+            let size = sizes[section];
+            let record = start(section) + size * random.between(0, sections[section].len() / size - 1);
+            let from = if random.once_in(2) { 0 } else { random.between(0, size - 1) };
+            for _ in 0..random.between(2, 4) {
+                let at = record + random.between(from, size - 1);
+                image[at] = one_byte(random, image[at]);
+            }
+            Kind::BytesOfRecord
+        }
+        25..=26 if filled.len() > 1 => {
+            let mut chosen = filled.clone();
+            random.shuffle(&mut chosen);
+            for section in &chosen[..2] {
+                let at = start(*section) + random.between(0, sections[*section].len() - 1);
+                image[at] = one_byte(random, image[at]);
+            }
+            Kind::TwoRecords
         }
         9..=10 => {
             let at = image.len() - random.between(1, 14);

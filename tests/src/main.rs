@@ -20,7 +20,7 @@ use reference::{emboss, emboss_planted, Answer, Planted};
 use std::io::{Read, Write};
 use std::process::{exit, Command, Stdio};
 
-const USAGE: &str = "compare --seed S --cases N --program WORD [--program WORD ...] [--planted 1..4] [--batch N] [--all-counts]
+const USAGE: &str = "compare --seed S --cases N --program WORD [--program WORD ...] [--planted 1..8] [--batch N] [--all-counts]
 compare case SEED
 compare table FILE IMAGE
 compare vectors FOLDER --program WORD [--program WORD ...]
@@ -78,6 +78,10 @@ impl Settings {
                         "2" => Planted::ContextAfterShift,
                         "3" => Planted::StatesAfterPiece,
                         "4" => Planted::BlankLineAtTop,
+                        "5" => Planted::RecordAsPlace,
+                        "6" => Planted::ShiftAtLength,
+                        "7" => Planted::SignAtThe99,
+                        "8" => Planted::NumbersExchanged,
                         _ => return Err(USAGE.to_string()),
                     }
                 }
@@ -240,15 +244,19 @@ pub fn run_program<T>(
 
 // The random comparison
 
+/// The numbers of an answer, in the order in which they are met.
+const NUMBERS: [u8; 13] = [0, 1, 2, 11, 12, 13, 14, 3, 4, 5, 6, 7, 8];
+
 struct Counts {
     cases: u64,
     kinds: [u64; KIND_WORDS.len()],
-    answers: [u64; 9],
+    /// One for each of NUMBERS.
+    answers: [u64; NUMBERS.len()],
     with_cells: u64,
 }
 
 fn compare(settings: &Settings) -> Result<(), String> {
-    let mut counts = Counts { cases: 0, kinds: [0; KIND_WORDS.len()], answers: [0; 9], with_cells: 0 };
+    let mut counts = Counts { cases: 0, kinds: [0; KIND_WORDS.len()], answers: [0; NUMBERS.len()], with_cells: 0 };
     let mut notes = Notes::new();
     while counts.cases < settings.cases {
         let upto = settings.cases.min(counts.cases + settings.batch);
@@ -270,7 +278,9 @@ fn compare(settings: &Settings) -> Result<(), String> {
             for kind in &case.kinds {
                 counts.kinds[*kind as usize] += 1;
             }
-            counts.answers[own.0.number as usize] += 1;
+            for (count, number) in counts.answers.iter_mut().zip(NUMBERS) {
+                *count += (number == own.0.number) as u64;
+            }
             if own.0.number == 0 {
                 notes.add(own_notes);
                 // The first line of a page always has a cell.
@@ -323,8 +333,8 @@ fn report(settings: &Settings, counts: &Counts, notes: &Notes) -> Result<(), Str
     for (count, words) in counts.kinds.iter().zip(KIND_WORDS) {
         line(*count, words);
     }
-    for (answer, count) in counts.answers.iter().enumerate() {
-        line(*count, &format!("answer {answer}"));
+    for (count, number) in counts.answers.iter().zip(NUMBERS) {
+        line(*count, &format!("answer {number}"));
     }
     line(counts.with_cells, "answer 0 with cells");
     for (count, words) in notes.counts.iter().zip(EVENT_WORDS) {

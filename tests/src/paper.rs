@@ -1,4 +1,5 @@
-//! The paper's own examples and corners, by its table of 218 bytes, asked of the reference.
+//! The paper's own examples and corners, by its table of 218 bytes, asked of the reference; what a request of
+//! document 02 changes, by the same table.
 
 use crate::counts::Notes;
 use crate::reference::{emboss, emboss_planted, Answer, Planted};
@@ -82,33 +83,94 @@ fn wrong_tables() {
     assert_eq!(check(&sound[..217]), (1, 0));
     assert_eq!(check(&sound[1..]), (1, 0));
     // One byte at a time: where it stands, what is put there, what is answered.
-    let damages: [(usize, u8, (u8, u64)); 20] = [
+    let damages: [(usize, u8, (u8, u64)); 40] = [
+        // of the blank, of the period, of U: symbol, class, sign
         (0, b'|', (2, 0)),
         (0, b'Z', (3, 0)),
         (3, b' ', (2, 3)),
-        (4, 0, (2, 3)),
-        (4, 6, (2, 3)),
-        (5, 65, (2, 3)),
-        (5, 70, (2, 3)),
-        (57, 0, (2, 57)),
-        (57, 11, (2, 57)),
-        (58, b'Z', (2, 57)),
-        (62, b'A', (2, 57)),
-        (68, 2, (2, 57)),
+        (4, 0, (2, 4)),
+        (4, 6, (2, 4)),
+        (5, 65, (2, 5)),
+        (5, 70, (2, 5)),
+        (54, b'.', (2, 54)),
+        (56, 98, (2, 56)),
+        // of COM: length, and what follows from another one
+        (57, 0, (11, 57)),
+        (57, 11, (11, 57)),
+        (57, 2, (11, 60)),
+        (57, 4, (11, 61)),
+        (58, b'Z', (11, 58)),
+        (60, 0, (11, 60)),
+        (61, b'A', (11, 61)),
+        (67, b'A', (11, 67)),
+        (68, 2, (11, 68)),
         (68, 1, (0, 0)),
-        (70, 0, (2, 57)),
-        (70, 4, (2, 57)),
-        (73, 7, (2, 57)),
-        (183, 6, (2, 183)),
-        (187, b'G', (2, 187)),
-        (192, b'T', (2, 192)),
-        (197, b'G', (2, 192)),
+        (69, 0, (11, 69)),
+        (69, 6, (11, 69)),
+        (70, 0, (11, 70)),
+        (70, 4, (11, 70)),
+        (71, 65, (11, 71)),
+        (71, 99, (0, 0)),
+        (73, 7, (11, 73)),
+        (74, 74, (11, 74)),
+        // of BLIND, signs 3 7 99 99
+        (93 + 13, 6, (11, 106)),
+        (93 + 14, 99, (11, 108)),
+        (93 + 17, 7, (11, 110)),
+        // of the right context, of the transition, of both decisions
+        (183, 6, (12, 183)),
+        (186, 0, (12, 186)),
+        (187, b'G', (13, 187)),
+        (191, b'Y', (13, 191)),
+        (192, b'T', (14, 192)),
+        (196, b'R', (14, 196)),
+        (197, b'G', (14, 197)),
+        (198, b'S', (14, 198)),
+        (203, b'F', (14, 203)),
+        // $L begins as COM does, and others stand between them
+        (130, b'C', (4, 129)),
     ];
     for (at, byte, answer) in damages {
         let mut image = sound.clone();
         image[at] = byte;
         assert_eq!(check(&image), answer, "byte {at} made {byte}");
     }
+}
+
+/// The paper's table with these bytes put in its place.
+fn damaged(bytes: &[(usize, u8)]) -> Vec<u8> {
+    let mut image = image();
+    for (at, byte) in bytes {
+        image[*at] = *byte;
+    }
+    image
+}
+
+#[test]
+fn the_first_of_two_wrong_bytes() {
+    // In one record: whatever the two are, the one that stands first.
+    assert_eq!(check(&damaged(&[(3, b' '), (4, 0)])), (2, 3));
+    assert_eq!(check(&damaged(&[(4, 0), (5, 70)])), (2, 4));
+    assert_eq!(check(&damaged(&[(57, 0), (58, b'Z')])), (11, 57));
+    assert_eq!(check(&damaged(&[(57, 255), (74, 74)])), (11, 57));
+    assert_eq!(check(&damaged(&[(59, b'Z'), (63, 1)])), (11, 59));
+    assert_eq!(check(&damaged(&[(63, 1), (68, 2)])), (11, 63));
+    assert_eq!(check(&damaged(&[(69, 0), (70, 9)])), (11, 69));
+    assert_eq!(check(&damaged(&[(70, 9), (71, 74)])), (11, 70));
+    // Signs 36 99 7 99, 99 1 99 1, 74 99 1 99: the first that is not right, or not 99 after a 99.
+    assert_eq!(check(&damaged(&[(73, 7)])), (11, 73));
+    assert_eq!(check(&damaged(&[(71, 99), (72, 1), (74, 1)])), (11, 72));
+    assert_eq!(check(&damaged(&[(71, 74), (73, 1)])), (11, 71));
+    // Ten characters with the right context 1, and a shift over the length.
+    let ten: Vec<(usize, u8)> = (58..=67).map(|at| (at, b'A')).chain([(57, 10), (68, 1), (70, 11)]).collect();
+    assert_eq!(check(&damaged(&ten)), (11, 68));
+    // In two sections: the one of the earlier section, before 3 and 4.
+    assert_eq!(check(&damaged(&[(56, 98), (57, 0)])), (2, 56));
+    assert_eq!(check(&damaged(&[(165 + 17, 7), (183, 0)])), (11, 182));
+    assert_eq!(check(&damaged(&[(186, 0), (187, b'G')])), (12, 186));
+    assert_eq!(check(&damaged(&[(191, b'G'), (192, b'T')])), (13, 191));
+    assert_eq!(check(&damaged(&[(203, b'F'), (0, b'Z')])), (14, 203));
+    assert_eq!(check(&damaged(&[(203, b'F'), (130, b'C')])), (14, 203));
 }
 
 #[test]
@@ -152,4 +214,27 @@ fn errors_an_implementer_will_be_drawn_to() {
     // FUL begins no word: the variable is still no before it, and yes after it.
     shows(Planted::StatesAfterPiece, paper, "FUL", &[11, 37, 7, 64, 65]);
     shows(Planted::BlankLineAtTop, paper, "$SA", &[1, 64, 65]);
+}
+
+/// The errors that request 1 of document 02 invites, each by a damage that shows it: what is right, and what the
+/// error answers.
+#[test]
+fn errors_of_which_byte() {
+    let shows = |planted: Planted, bytes: &[(usize, u8)], right: (u8, u64), error: (u8, u64)| {
+        let ask = |planted| {
+            let answer = emboss_planted(planted, &damaged(bytes), b"", 8, 2, &mut [], &mut Notes::new());
+            (answer.number, answer.place)
+        };
+        assert_eq!(ask(Planted::Nothing), right, "{bytes:?}");
+        assert_eq!(ask(planted), error, "{bytes:?}");
+    };
+    // The class of the period.
+    shows(Planted::RecordAsPlace, &[(4, 0)], (2, 4), (2, 3));
+    shows(Planted::RecordAsPlace, &[(203, b'F')], (14, 203), (14, 198));
+    // BLIND with shift 6.
+    shows(Planted::ShiftAtLength, &[(106, 6)], (11, 106), (11, 93));
+    // COM with the signs 36 99 7 99.
+    shows(Planted::SignAtThe99, &[(73, 7)], (11, 73), (11, 72));
+    shows(Planted::NumbersExchanged, &[(183, 6)], (12, 183), (13, 183));
+    shows(Planted::NumbersExchanged, &[(187, b'G')], (13, 187), (12, 187));
 }

@@ -1,8 +1,9 @@
-//! Document 01 written again, straight from the paper and for clarity, so that the proved program has
-//! something to be compared with. It copies the table into plain lists and searches them from the front; it
-//! promises the paper's answer and nothing about speed. Each part stands under the paper's heading, and its
-//! comments are the paper's words. `Planted` puts one of the paper's four "errors an implementer will be drawn
-//! to" in, to see that the comparison finds it; `Notes` counts what was met and changes nothing.
+//! Document 01 written again, with what document 02 changes, straight from the papers and for clarity, so that
+//! the proved program has something to be compared with. It copies the table into plain lists and searches them
+//! from the front; it promises the papers' answer and nothing about speed. Each part stands under document 01's
+//! heading, and its comments are the papers' words. `Planted` puts an error in, to see that the comparison finds
+//! it: one of document 01's four "errors an implementer will be drawn to", or one that a request of document 02
+//! invites. `Notes` counts what was met and changes nothing.
 
 use crate::counts::{Event, Notes};
 
@@ -29,6 +30,14 @@ pub enum Planted {
     StatesAfterPiece,
     /// Writing the blank line of 71 at the top of a page.
     BlankLineAtTop,
+    /// Request 1: the record's offset as the place.
+    RecordAsPlace,
+    /// Request 1: a wrong shift placed at the length.
+    ShiftAtLength,
+    /// Request 1: a sign after a 99 placed at the 99.
+    SignAtThe99,
+    /// Request 1: 12 and 13 exchanged.
+    NumbersExchanged,
 }
 
 /// A refusal: its number and its place.
@@ -82,8 +91,8 @@ fn press(
     room: usize,
     notes: &mut Notes,
 ) -> Result<(Vec<u8>, u64), Refusal> {
-    // 1 to 4
-    let table = open(image, notes)?;
+    // 1, 2, 11 to 14, 3, 4
+    let table = open(planted, image, notes)?;
     // 5: W or P outside its limits
     if !(8..=60).contains(&w) || !(2..=40).contains(&p) {
         return Err((5, 0));
@@ -146,88 +155,66 @@ struct Table {
     columns: Vec<Column>,
 }
 
-/// Reads an image: refusals 1 to 4, or its table.
-fn open(image: &[u8], notes: &mut Notes) -> Result<Table, Refusal> {
+/// Reads an image: the refusals of a table, or its table.
+fn open(planted: Planted, image: &[u8], notes: &mut Notes) -> Result<Table, Refusal> {
     // 1: image under 14 bytes, or trailer or section lengths wrong
     let Sections { starts, classes, variables } = sections(image, notes).ok_or((1, 0))?;
-    let records = |section: usize, size: usize| {
-        let (from, to) = (starts[section], starts[section + 1]);
-        (from..to).step_by(size).map(move |offset| (offset as u64, &image[offset..offset + size]))
+    let sizes = [3, 18, 4, classes, classes + variables];
+    let records = |section: usize| image[starts[section]..starts[section + 1]].chunks(sizes[section]);
+
+    // 2 alphabet, 11 contractions, 12 contexts, 13 transitions, 14 decisions: wrong record, at the offset of the
+    // first wrong byte in the first one, in image order
+    let symbols: Vec<u8> = records(0).map(|record| record[0]).collect();
+    let mut refusal = None;
+    for (section, number) in [2, 11, 12, 13, 14].into_iter().enumerate() {
+        let wrong_bytes = |(index, record): (usize, &[u8])| match section {
+            0 => wrong_in_letter(record, &symbols[..index], classes),
+            1 => wrong_in_entry(planted, record, &symbols, records(2).count(), classes),
+            2 => wrong_in_context(record, classes),
+            3 => wrong_in_transition(record),
+            _ => wrong_in_decision(record, classes),
+        };
+        let Some((index, wrong)) =
+            records(section).enumerate().map(wrong_bytes).enumerate().find(|(_, wrong)| !wrong.is_empty())
+        else {
+            continue;
+        };
+        if refusal.is_some() {
+            notes.note(Event::WrongInTwoSections);
+            break;
+        }
+        notes.wrong_record(index, &wrong);
+        let offset = starts[section] + index * sizes[section];
+        let first = wrong.iter().map(|(byte, _)| *byte).min().expect("a byte is wrong");
+        let place = if planted == Planted::RecordAsPlace { offset } else { offset + first };
+        let number = match number {
+            12 if planted == Planted::NumbersExchanged => 13,
+            13 if planted == Planted::NumbersExchanged => 12,
+            _ => number,
+        };
+        refusal = Some((number, place as u64));
+    }
+    if let Some(refusal) = refusal {
+        return Err(refusal);
+    }
+
+    let table = Table {
+        letters: records(0).map(|record| Letter { symbol: record[0], class: record[1], sign: record[2] }).collect(),
+        entries: records(1)
+            .map(|record| Entry {
+                string: record[1..11][..record[0] as usize].to_vec(),
+                context: record[11] as usize,
+                class: record[12],
+                shift: record[13] as usize,
+                signs: [record[14], record[15], record[16], record[17]],
+            })
+            .collect(),
+        contexts: records(2).map(<[u8]>::to_vec).collect(),
+        transitions: records(3).map(<[u8]>::to_vec).collect(),
+        columns: records(4)
+            .map(|record| Column { classes: record[..classes].to_vec(), variables: record[classes..].to_vec() })
+            .collect(),
     };
-    let class_is_right = |class: u8| 1 <= class && class as usize <= classes;
-    let mut table =
-        Table { letters: vec![], entries: vec![], contexts: vec![], transitions: vec![], columns: vec![] };
-
-    // 2: wrong record, at the offset of the first one, in image order
-    for (offset, record) in records(0, 3) {
-        let letter = Letter { symbol: record[0], class: record[1], sign: record[2] };
-        let right = notes.kept(&[
-            (Event::AloneSymbol, (32..=126).contains(&letter.symbol)),
-            (Event::AloneBar, letter.symbol != BAR),
-            (Event::AloneRepeated, table.letter(letter.symbol).is_none()),
-            (Event::AloneLetterClass, class_is_right(letter.class)),
-            (Event::AloneLetterSign, letter.sign <= 64 || letter.sign == NO_CELL),
-        ]);
-        if !right {
-            notes.note(Event::WrongAlphabet);
-            return Err((2, offset));
-        }
-        table.letters.push(letter);
-    }
-
-    let number_of_contexts = records(2, 4).count();
-    for (offset, record) in records(1, 18) {
-        let length = record[0] as usize;
-        let (string, past) = record[1..11].split_at(length.min(10));
-        let (context, class, shift) = (record[11] as usize, record[12], record[13] as usize);
-        let signs = [record[14], record[15], record[16], record[17]];
-        let sign_is_right = |sign: &u8| *sign <= 64 || (70..=73).contains(sign) || *sign == NO_CELL;
-        let right = notes.kept(&[
-            (Event::AloneLength, (1..=10).contains(&length)),
-            (Event::AloneString, string.iter().all(|symbol| table.letter(*symbol).is_some())),
-            (Event::AlonePast, past.iter().all(|byte| *byte == 0)),
-            (Event::AloneNoContext, context <= number_of_contexts),
-            (Event::AloneContextAtTen, length != 10 || context == 0),
-            (Event::AloneEntryClass, class_is_right(class)),
-            (Event::AloneShift, 1 <= shift && shift <= length),
-            (Event::AloneSign, signs.iter().all(sign_is_right)),
-            (Event::AloneAfter99, signs.windows(2).all(|pair| pair[0] != NO_CELL || pair[1] == NO_CELL)),
-        ]);
-        if !right {
-            notes.note(Event::WrongContraction);
-            return Err((2, offset));
-        }
-        table.entries.push(Entry { string: string.to_vec(), context, class, shift, signs });
-    }
-
-    for (offset, record) in records(2, 4) {
-        if !record.iter().all(|class| class_is_right(*class)) {
-            notes.note(Event::WrongContext);
-            return Err((2, offset));
-        }
-        table.contexts.push(record.to_vec());
-    }
-
-    for (offset, record) in records(3, classes) {
-        if !record.iter().all(|byte| b"RST-".contains(byte)) {
-            notes.note(Event::WrongTransition);
-            return Err((2, offset));
-        }
-        table.transitions.push(record.to_vec());
-    }
-
-    for (offset, record) in records(4, classes + variables) {
-        let (of_classes, of_variables) = record.split_at(classes);
-        let right = notes.kept(&[
-            (Event::AloneClassByte, of_classes.iter().all(|byte| b"GFYN-".contains(byte))),
-            (Event::AloneVariableByte, of_variables.iter().all(|byte| b"YN-".contains(byte))),
-        ]);
-        if !right {
-            notes.note(Event::WrongDecision);
-            return Err((2, offset));
-        }
-        table.columns.push(Column { classes: of_classes.to_vec(), variables: of_variables.to_vec() });
-    }
 
     // 3: no alphabet record for blank
     if table.letter(BLANK).is_none() {
@@ -251,6 +238,103 @@ fn open(image: &[u8], notes: &mut Notes) -> Result<Table, Refusal> {
         notes.note(*event);
     }
     Ok(table)
+}
+
+// A right record has: each rule in turn names all bytes of the record that break it, by their number in the
+// record, from 0. Which of them stands first is another question.
+
+/// The bytes of a record that are wrong, each with the rule that it breaks, in no order.
+type WrongBytes = Vec<(usize, Event)>;
+
+/// Every class from 1 to the number of classes.
+fn is_class(class: u8, classes: usize) -> bool {
+    1 <= class && class as usize <= classes
+}
+
+/// Of an alphabet record: symbol, class, sign.
+fn wrong_in_letter(record: &[u8], earlier: &[u8], classes: usize) -> WrongBytes {
+    let (symbol, class, sign) = (record[0], record[1], record[2]);
+    let rules = [
+        // symbol 32..126, not 124 (|), and not that of an earlier record
+        (0, Event::AloneSymbol, (32..=126).contains(&symbol)),
+        (0, Event::AloneBar, symbol != BAR),
+        (0, Event::AloneRepeated, !earlier.contains(&symbol)),
+        (1, Event::AloneLetterClass, is_class(class, classes)),
+        // alphabet sign 0..64 or 99
+        (2, Event::AloneLetterSign, sign <= 64 || sign == NO_CELL),
+    ];
+    rules.into_iter().filter(|(_, _, kept)| !kept).map(|(byte, rule, _)| (byte, rule)).collect()
+}
+
+/// Of a contraction record: length, ten string bytes, right context, class, shift, four signs.
+fn wrong_in_entry(planted: Planted, record: &[u8], symbols: &[u8], contexts: usize, classes: usize) -> WrongBytes {
+    const CONTEXT: usize = 11;
+    const CLASS: usize = 12;
+    const SHIFT: usize = 13;
+    let length = record[0] as usize;
+    let mut wrong = vec![];
+    // length 1..10
+    if length < 1 || length > 10 {
+        wrong.push((0, Event::AloneLength));
+    }
+    // string characters all in the alphabet; 0 past the length
+    for byte in 1..=10 {
+        if byte <= length && !symbols.contains(&record[byte]) {
+            wrong.push((byte, Event::AloneString));
+        }
+        if byte > length && record[byte] != 0 {
+            wrong.push((byte, Event::AlonePast));
+        }
+    }
+    // a right context that exists, and 0 where the length is 10
+    if record[CONTEXT] as usize > contexts {
+        wrong.push((CONTEXT, Event::AloneNoContext));
+    }
+    if length == 10 && record[CONTEXT] != 0 {
+        wrong.push((CONTEXT, Event::AloneContextAtTen));
+    }
+    if !is_class(record[CLASS], classes) {
+        wrong.push((CLASS, Event::AloneEntryClass));
+    }
+    // shift from 1 to the length
+    if record[SHIFT] < 1 || record[SHIFT] as usize > length {
+        wrong.push((if planted == Planted::ShiftAtLength { 0 } else { SHIFT }, Event::AloneShift));
+    }
+    // entry signs 0..64, 70..73 or 99, and after a 99 only 99
+    for byte in 14..18 {
+        if !matches!(record[byte], 0..=64 | 70..=73 | NO_CELL) {
+            wrong.push((byte, Event::AloneSign));
+        }
+        if let Some(none) = (14..byte).find(|before| record[*before] == NO_CELL) {
+            if record[byte] != NO_CELL {
+                wrong.push((if planted == Planted::SignAtThe99 { none } else { byte }, Event::AloneAfter99));
+            }
+        }
+    }
+    wrong
+}
+
+/// Of a right context: four classes, repeats allowed.
+fn wrong_in_context(record: &[u8], classes: usize) -> WrongBytes {
+    let wrong = |byte: &usize| !is_class(record[*byte], classes);
+    (0..4).filter(wrong).map(|byte| (byte, Event::AloneContextClass)).collect()
+}
+
+/// Of a transition: one byte per class, `R S T -`.
+fn wrong_in_transition(record: &[u8]) -> WrongBytes {
+    let wrong = |byte: &usize| !b"RST-".contains(&record[*byte]);
+    (0..record.len()).filter(wrong).map(|byte| (byte, Event::AloneTransitionByte)).collect()
+}
+
+/// Of a decision: `G F Y N -` for classes and `Y N -` for variables.
+fn wrong_in_decision(record: &[u8], classes: usize) -> WrongBytes {
+    let of_classes = (0..classes)
+        .filter(|byte| !b"GFYN-".contains(&record[*byte]))
+        .map(|byte| (byte, Event::AloneClassByte));
+    let of_variables = (classes..record.len())
+        .filter(|byte| !b"YN-".contains(&record[*byte]))
+        .map(|byte| (byte, Event::AloneVariableByte));
+    of_classes.chain(of_variables).collect()
 }
 
 struct Sections {

@@ -1,5 +1,5 @@
-// The paper's run cases: what the whole call answers at its limits, for each refusal 1 to 8 with
-// its place, and where two refusals hold at once. Each case prints its answer in the form of
+// The paper's run cases: what the whole call answers at its limits, for refusals 1 to 8 with their
+// places, and where two refusals hold at once. Each case prints its answer in the form of
 // `brailleout`. Some go on with the cells and pages; the others say whether the bytes lent are as
 // they were.
 use libc::STDOUT_FILENO;
@@ -111,8 +111,8 @@ fn all(image: &[u8]) {
     orders(image);
 }
 
-// A wrong byte: of a letter's class (2), of the blank's symbol (3), of an entry's string, which
-// parts two that begin alike (4).
+// A wrong byte: of a letter's class (2, at that byte), of the blank's symbol (3), of an entry's
+// string, which parts two that begin alike (4).
 fn main() {
     let mut image = [0u8; 32768];
     let table = console::read_table(&mut image);

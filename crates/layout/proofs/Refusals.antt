@@ -1,4 +1,4 @@
--- Demand 1 over the definitions: each refusal 1 to 8 is the answer of the whole call exactly when its line of the paper's table holds and no earlier
+-- Demand 1 over the definitions: each refusal is the answer of the whole call exactly when its line of the paper's table holds and no earlier
 -- line does; a refused call leaves the output as lent, and a done call leaves everything beyond the written bytes as lent. The call makes its checks
 -- in the paper's order, so each answer comes with what the checks before it found.
 use Prim.Native.Nat.{ℕ, _+_, _≤_, _<_}

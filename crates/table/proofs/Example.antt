@@ -48,7 +48,7 @@ record Damage : Type 0 where
 wrong : ℕ → ℕ → ℕ → ℕ → Damage
 wrong o b n p = record { offset = o; byte = b; number = n; place = p }
 
--- the offsets of the eleventh letter, of the entries COM, BLIND and $L, of the context, the transition and the first column
+-- the offsets of the eleventh letter, of the entries COM, BLIND and $L, of the context, the transition, both columns and the trailer
 abbrev letterI : ℕ
 letterI = 30
 
@@ -70,6 +70,9 @@ transition1 = 187
 abbrev column1 : ℕ
 column1 = 192
 
+abbrev column2 : ℕ
+column2 = 198
+
 abbrev trailer : ℕ
 trailer = 204
 
@@ -85,31 +88,57 @@ damages =
     ∷ wrong letterI 124 2 letterI  -- the bar as a symbol
     ∷ wrong letterI 31 2 letterI  -- a symbol below 32
     ∷ wrong letterI 65 2 letterI  -- a repeated symbol
-    ∷ wrong (letterI + 1) 6 2 letterI  -- a class that isn't there
-    ∷ wrong (letterI + 2) 70 2 letterI  -- a format sign in the alphabet
-    ∷ wrong entryCOM 0 2 entryCOM  -- no length
-    ∷ wrong (entryCOM + 3) 88 2 entryCOM  -- a character outside the alphabet
-    ∷ wrong (entryCOM + 4) 77 2 entryCOM  -- a byte past the length
-    ∷ wrong (entryBLIND + 11) 2 2 entryBLIND  -- a context that isn't there
-    ∷ wrong (entryBLIND + 13) 6 2 entryBLIND  -- a shift over the length
-    ∷ wrong (entryBLIND + 13) 0 2 entryBLIND  -- no shift
-    ∷ wrong (entryCOM + 14) 74 2 entryCOM  -- a sign above the format signs
-    ∷ wrong (entryCOM + 17) 7 2 entryCOM  -- a sign after a 99
+    ∷ wrong 0 31 2 0  -- the first record
+    ∷ wrong 1 0 2 1  -- no class
+    ∷ wrong (letterI + 1) 6 2 (letterI + 1)  -- a class that isn't there
+    ∷ wrong (letterI + 2) 70 2 (letterI + 2)  -- a format sign in the alphabet
+    ∷ wrong entryCOM 0 11 entryCOM  -- no length
+    ∷ wrong entryBLIND 11 11 entryBLIND  -- a length over 10, whatever follows
+    ∷ wrong (entryCOM + 3) 88 11 (entryCOM + 3)  -- a character outside the alphabet
+    ∷ wrong (entryBLIND + 1) 0 11 (entryBLIND + 1)  -- no character where one is due
+    ∷ wrong entryBLIND 6 11 (entryBLIND + 6)  -- a length over its string
+    ∷ wrong (entryCOM + 4) 77 11 (entryCOM + 4)  -- a byte past the length
+    ∷ wrong entryBLIND 4 11 (entryBLIND + 5)  -- a length under its string
+    ∷ wrong (entryBLIND + 10) 68 11 (entryBLIND + 10)  -- the last string byte
+    ∷ wrong (entryBLIND + 11) 2 11 (entryBLIND + 11)  -- a context that isn't there
+    ∷ wrong (entryCOM + 12) 6 11 (entryCOM + 12)  -- a class that isn't there
+    ∷ wrong (entryBLIND + 13) 6 11 (entryBLIND + 13)  -- a shift over the length
+    ∷ wrong (entryBLIND + 13) 0 11 (entryBLIND + 13)  -- no shift
+    ∷ wrong (entryCOM + 14) 74 11 (entryCOM + 14)  -- a sign above the format signs
+    ∷ wrong (entryBLIND + 15) 69 11 (entryBLIND + 15)  -- a sign below the format signs
+    ∷ wrong (entryBLIND + 14) 99 11 (entryBLIND + 15)  -- a 99 before a sign
+    ∷ wrong (entryCOM + 17) 7 11 (entryCOM + 17)  -- a sign after a 99
     ∷ wrong (entryCOM + 14) 99 0 0  -- an entry that prints nothing is right
-    ∷ wrong (context1 + 3) 0 2 context1  -- no class in a context
-    ∷ wrong transition1 71 2 transition1  -- G in a transition
-    ∷ wrong column1 82 2 column1  -- R in a decision
-    ∷ wrong (column1 + 5) 71 2 column1  -- G as a variable's condition
+    ∷ wrong context1 6 12 context1  -- a class that isn't there
+    ∷ wrong (context1 + 3) 0 12 (context1 + 3)  -- no class in a context
+    ∷ wrong transition1 71 13 transition1  -- G in a transition
+    ∷ wrong (transition1 + 4) 89 13 (transition1 + 4)  -- Y in a transition
+    ∷ wrong column1 82 14 column1  -- R in a decision
+    ∷ wrong (column1 + 5) 71 14 (column1 + 5)  -- G as a variable's condition
+    ∷ wrong (column2 + 3) 84 14 (column2 + 3)  -- T in the second column
+    ∷ wrong (column2 + 5) 70 14 (column2 + 5)  -- F as its condition
     ∷ wrong 0 33 3 0  -- no blank
     ∷ wrong (entryL + 1) 67 4 entryL  -- CL after $P, where COM stands first
     ∷ []
 
+-- the number and the place of the verdict on an image
+told : List ℕ → ℕ × ℕ
+told i = let v = verdictOf i in (verdictNumber v, verdictPlace v)
+
 judged : Damage → ℕ × ℕ
-judged d = let v = verdictOf (set image (d .offset) (d .byte)) in (verdictNumber v, verdictPlace v)
+judged d = told (set image (d .offset) (d .byte))
 
 damages-judged : map judged damages ≡ map (λ (d : Damage). (d .number, d .place)) damages
-unfolding computing damages judged wrong
+unfolding computing damages judged told wrong
 damages-judged = refl
+
+-- of two wrong bytes the first in image order is named, whatever their sections
+two-damages-judged :
+    map told
+    (set (set image (entryBLIND + 13) 6) (entryBLIND + 17) 74 ∷ set (set image (context1 + 1) 0) (entryL + 12) 0 ∷ set (set image (transition1 + 1) 0) (entryCOM + 12) 0 ∷ set (set image column1 0) transition1 0 ∷ [])
+    ≡ (11, entryBLIND + 13) ∷ (11, entryL + 12) ∷ (11, entryCOM + 12) ∷ (13, transition1) ∷ []
+unfolding computing told
+two-damages-judged = refl
 
 -- an image that is cut short, down to nothing
 short-images-judged : map (λ n. verdictNumber (verdictOf (take n image))) (0 ∷ 13 ∷ 14 ∷ 217 ∷ []) ≡ 1 ∷ 1 ∷ 1 ∷ 1 ∷ []
@@ -120,8 +149,8 @@ short-images-judged = refl
 ten : ℕ → List ℕ
 ten c = sets image entryCOM (10 ∷ 67 ∷ 79 ∷ 77 ∷ 67 ∷ 79 ∷ 77 ∷ 67 ∷ 79 ∷ 77 ∷ 67 ∷ c ∷ [])
 
-ten-characters-judged : map (λ c. verdictNumber (verdictOf (ten c))) (0 ∷ 1 ∷ []) ≡ 0 ∷ 2 ∷ []
-unfolding computing ten
+ten-characters-judged : map told (map ten (0 ∷ 1 ∷ [])) ≡ (0, 0) ∷ (11, entryCOM + 11) ∷ []
+unfolding computing ten told
 ten-characters-judged = refl
 
 -- ---- Grouping: padding is never compared

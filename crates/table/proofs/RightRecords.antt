@@ -1,95 +1,22 @@
--- The rule of each kind of record, a list of tests, passes just where the record is right in the paper's words. The idea: a rule is put together from
--- single tests and lists of tests, and what it tells is put together from what they tell.
+-- The rule of each kind of record, a list of tests, passes just where the record is right in the paper's words, and each of its tests just where its byte
+-- is. The idea: a rule is put together from single tests and lists of tests, and what it tells is put together from what they tell.
 use Prim.Native.Nat.{ℕ, zero, suc, pred, _+_, _-_, _≤_, _<_}
 use mathlib.Core.Bool.{Bool, true}
 use mathlib.Core.List.{List, [], _∷_, _++_}
 use mathlib.Core.Logic.{_↔_, _⊎_, inl, inr, ⊎-elim, Iff·trans}
-use mathlib.Core.Path.{_≡_, sym, _∙_, ap, subst}
+use mathlib.Core.Path.{_≡_, refl, sym, _∙_, ap, subst}
 use native.Mathlib.Decide.{decLt, ℕ-discrete}
 use native.Mathlib.Omega.{arith}
-use lib.ListN.{length, getD, take, length-append, List·getD-append}
+use lib.ListN.{length, getD, take, length-append, List·getD-append, List·getD-eq-default}
 use lib.Seq.{length-take-le, getD-take, getD-append-add}
-use Rattle.table.specs.Numbers.{
-  noCell,
-  leastSymbol,
-  mostSymbol,
-  bar,
-  lengthByte,
-  stringByte,
-  contextByte,
-  signsByte,
-  entrySigns,
-  leastLength,
-  mostLength,
-  padding,
-  noContext,
-  contextSize,
-}
-use Rattle.table.specs.Search.{listOf, member}
+use Rattle.table.specs.Numbers.{noCell, leastSymbol, mostSymbol, bar, lengthByte, stringByte, contextByte, signsByte, entrySigns, leastLength, mostLength, padding, noContext, contextSize}
+use Rattle.table.specs.Search.{listFrom, listOf, member}
 use Rattle.table.specs.Sections.{recordByte}
-use Rattle.table.specs.Records.{
-  rightSymbol,
-  rightClass,
-  rightLetterSign,
-  rightEntrySign,
-  rightSignAfter,
-  rightTransition,
-  rightCondition,
-  rightDecision,
-  symbols,
-  rightNewSymbol,
-  letterRule,
-  rightStringByte,
-  rightContextByte,
-  entryRule,
-  contextRule,
-  transitionRule,
-  decisionRule,
-  wrongByte,
-  rightRecord,
-  SectionName,
-  alphabet,
-  contractions,
-  contexts,
-  transitions,
-  decisions,
-  sectionNamed,
-  ruleOf,
-}
-use Rattle.table.specs.Refusals.{
-  Between,
-  IsClass,
-  IsLetterSign,
-  IsEntrySign,
-  IsTransition,
-  IsDecision,
-  IsCondition,
-  ContextExists,
-  symbolOf,
-  InAlphabet,
-  RightLetter,
-  entryByte,
-  RightEntry,
-  RightContext,
-  RightTransition,
-  RightDecision,
-  RightRecord,
-  There,
-}
+use Rattle.table.specs.Records.{rightSymbol, rightClass, rightLetterSign, rightEntrySign, rightSignAfter, rightTransition, rightCondition, rightDecision, symbols, rightNewSymbol, letterRule, rightStringByte, rightContextByte, entryRule, contextRule, transitionRule, decisionRule, wrongByte, rightRecord, SectionName, alphabet, contractions, contexts, transitions, decisions, sectionNamed, ruleOf}
+use Rattle.table.specs.Refusals.{Between, IsClass, IsLetterSign, IsEntrySign, IsTransition, IsDecision, IsCondition, ContextExists, symbolOf, InAlphabet, RightLetter, entryByte, RightEntry, RightContext, RightTransition, RightDecision, RightRecord, There, IsStringByte, IsSignAfter, bytesOf, RightByte}
 use Rattle.table.specs.declared.Sections.{Sections}
 use Rattle.table.proofs.Lists.{length-listOf, getD-listOf, member-law}
-use Rattle.table.proofs.Tests.{
-  Tells,
-  tells-and,
-  tells-or,
-  tells-not,
-  tells-cond,
-  tells-le,
-  tells-lt,
-  tells-eq,
-  tells-within,
-  every-law,
-}
+use Rattle.table.proofs.Tests.{Tells, tells-and, tells-or, tells-not, tells-cond, tells-le, tells-lt, tells-eq, tells-within, every-law}
 
 -- ---- Rules: lists of tests
 
@@ -146,6 +73,26 @@ rule-listOf f n tells =
 tells-rule : {rule : List Bool} {P Q : Type 0} → RuleTells rule P → P ↔ Q → Tells (rightRecord rule) Q
 tells-rule {rule} p e = Iff·trans (right-record-law rule) (λ h. e .0 (p .holds h), λ h. p .passes (e .1 h))
 
+-- ---- Rules, byte by byte: each test tells what its byte is to be
+
+data Bytewise : List Bool → List (Type 0) → Type 1 where
+  no-byte : Bytewise [] []
+  next-byte : {b : Bool} {P : Type 0} {rule : List Bool} {facts : List (Type 0)} → Tells b P → Bytewise rule facts → Bytewise (b ∷ rule) (P ∷ facts)
+
+at-byte : {rule : List Bool} {facts : List (Type 0)} → Bytewise rule facts → (j : ℕ) → Tells (getD rule j true) (getD facts j (Unit {0}))
+at-byte no-byte j = (λ _. tt, λ _. refl)
+at-byte (next-byte t r) zero = t
+at-byte (next-byte t r) (suc j) = at-byte r j
+
+bytewise-append : {xs ys : List Bool} {ps qs : List (Type 0)} → Bytewise xs ps → Bytewise ys qs → Bytewise (xs ++ ys) (ps ++ qs)
+bytewise-append no-byte r = r
+bytewise-append (next-byte t l) r = next-byte t (bytewise-append l r)
+
+bytewise-from : (f : ℕ → Bool) (P : ℕ → Type 0) (i n : ℕ) → ((k : ℕ) → Tells (f k) (P k)) → Bytewise (listFrom f i n) (listFrom P i n)
+unfolding listFrom
+bytewise-from f P i zero tells = no-byte
+bytewise-from f P i (suc n) tells = next-byte (tells i) (bytewise-from f P (suc i) n tells)
+
 -- ---- What a byte may be
 
 regrouped : {P Q R : Type 0} → ((P ⊎ Q) ⊎ R) ↔ (P ⊎ Q ⊎ R)
@@ -187,6 +134,17 @@ RightAfter before g = (before ≡ noCell → g ≡ noCell) × ((before ≡ noCel
 tells-sign-after : (before g : ℕ) → Tells (rightSignAfter before g) (RightAfter before g)
 unfolding rightSignAfter
 tells-sign-after before g = tells-cond (tells-eq before _) (tells-eq g _) (tells-entry-sign g)
+
+tells-is-sign-after : (before g : ℕ) → Tells (rightSignAfter before g) (IsSignAfter before g)
+tells-is-sign-after before g =
+    Iff·trans (tells-sign-after before g) (
+      λ h. (go h (ℕ-discrete before noCell), h .0),
+      λ h. (h .1, λ _. h .0),
+    )
+  where
+    go : RightAfter before g → Dec (before ≡ noCell) → IsEntrySign g
+    go h (yes e) = inr (inr (h .0 e))
+    go h (no d) = h .1 d
 
 module _ (sign : ℕ → ℕ) (n : ℕ) where
   abbrev Steps : Type 0
@@ -378,3 +336,46 @@ module _ (image : List ℕ) (s : Sections) where
   record-right contexts k l = context-right k
   record-right transitions k l = transition-right k
   record-right decisions k l = decision-right k
+
+  -- ---- Byte by byte
+
+  rule-bytes : (name : SectionName) (k : ℕ) → There s name k → Bytewise (ruleOf image s name k) (bytesOf image s name k)
+  unfolding ruleOf letterRule entryRule contextRule transitionRule decisionRule sectionNamed
+  rule-bytes alphabet k l =
+      next-byte
+      {P = Between leastSymbol mostSymbol (symbolOf image s k) × (symbolOf image s k ≡ bar → ⊥) × ((j : ℕ) → j < k → symbolOf image s j ≡ symbolOf image s k → ⊥)}
+      (Iff·trans (tells-new-symbol k l) (λ h. (h .0 .0, h .0 .1, λ j u e. h .1 (j, u, e)), λ h. ((h .0, h .1), λ e. h .2 (e .0) (e .1) (e .2))))
+      (next-byte (tells-class s _) (next-byte (tells-letter-sign _) no-byte))
+  rule-bytes contractions k l =
+      let len : ℕ = entryByte image s k lengthByte in
+      bytewise-append
+      (next-byte (tells-within _ _ len)
+      (bytewise-from _ (λ i. IsStringByte image s len i (entryByte image s k (stringByte + i))) 0 mostLength
+      (λ i.
+      Iff·trans (tells-string-byte len i (entryByte image s k (stringByte + i))) (λ h. (h .0, λ u. h .1 (λ v. omega arith)), λ h. (h .0, λ d. h .1 (omega arith))))))
+      (next-byte (tells-context-byte len (entryByte image s k contextByte))
+      (next-byte (tells-class s _)
+      (next-byte (tells-within _ len _)
+      (next-byte (tells-entry-sign _)
+      (bytewise-from _ (λ i. IsSignAfter (entryByte image s k (signsByte + i)) (entryByte image s k (signsByte + 1 + i))) 0 (entrySigns - 1)
+      (λ i. tells-is-sign-after (entryByte image s k (signsByte + i)) (entryByte image s k (signsByte + 1 + i))))))))
+  rule-bytes contexts k l = bytewise-from _ _ 0 contextSize (λ j. tells-class s (recordByte image (s .contexts) k j))
+  rule-bytes transitions k l = bytewise-from _ _ 0 (s .classes) (λ j. tells-transition (recordByte image (s .transitions) k j))
+  rule-bytes decisions k l =
+      bytewise-append (bytewise-from _ _ 0 (s .classes) (λ j. tells-decision (recordByte image (s .decisions) k j)))
+      (bytewise-from _ _ 0 (s .variables) (λ v. tells-condition (recordByte image (s .decisions) k (s .classes + v))))
+
+  -- each test of the rule passes just where its byte is right
+  pub byte-right : (name : SectionName) (k : ℕ) → There s name k → (j : ℕ) → Tells (getD (ruleOf image s name k) j true) (RightByte image s name k j)
+  byte-right name k l j = at-byte (rule-bytes name k l) j
+
+  -- a record is right exactly where each of its bytes is
+  pub right-by-bytes : (name : SectionName) (k : ℕ) → There s name k → RightRecord image s name k ↔ ((j : ℕ) → RightByte image s name k j)
+  right-by-bytes name k l = (
+    λ h j. byte-right name k l j .0 (everywhere (right-record-law (ruleOf image s name k) .0 (record-right name k l .1 h)) j (decLt j (length (ruleOf image s name k)))),
+    λ h. record-right name k l .0 (right-record-law (ruleOf image s name k) .1 (λ j u. byte-right name k l j .1 (h j))),
+  )
+    where
+      everywhere : Passes (ruleOf image s name k) → (j : ℕ) → Dec (j < length (ruleOf image s name k)) → getD (ruleOf image s name k) j true ≡ true
+      everywhere p j (yes u) = p j u
+      everywhere p j (no d) = List·getD-eq-default (ruleOf image s name k) true (omega arith)

@@ -1,140 +1,233 @@
--- Each rule as the code tests it: the conjunction of its tests, from the first to the last, where a list of tests by places counts as one. And the two
--- tests that the code makes by a letter's number: a character is in the alphabet, and a symbol is not that of an earlier record.
-use Prim.Native.Nat.{ℕ, zero, suc, _+_, _<_}
-use mathlib.Core.Bool.{Bool, true, _&&_}
+-- The first wrong byte of a rule, as the code finds it: a test that fails is the first, and past those that pass it is the first of the rest. And the two
+-- tests that the code makes by a letter's number are in LetterNumbers.
+use Prim.Native.Nat.{ℕ, zero, suc, _+_, _-_}
+use mathlib.Core.Bool.{Bool, true, false, not}
 use mathlib.Core.List.{List, [], _∷_, _++_}
-use mathlib.Core.Logic.{Iff·trans}
+use mathlib.Core.Option.{Option, none, some}
 use mathlib.Core.Path.{_≡_, refl, sym, _∙_, ap}
 use native.Mathlib.Omega.{arith}
-use lib.ListN.{take}
-use Rattle.table.specs.Numbers.{
-  letterClassByte,
-  letterSignByte,
-  lengthByte,
-  stringByte,
-  contextByte,
-  entryClassByte,
-  shiftByte,
-  signsByte,
-  leastLength,
-  mostLength,
-  leastShift,
-  contextSize,
-}
-use Rattle.table.specs.Search.{within, listFrom, listOf, every}
+use lib.ListN.{length, getD, take}
+use Rattle.table.specs.Numbers.{symbolByte, letterClassByte, letterSignByte, lengthByte, stringByte, contextByte, entryClassByte, shiftByte, signsByte, entrySigns, leastLength, mostLength, leastShift, contextSize}
+use Rattle.table.specs.Search.{within, firstFrom, first, listFrom, listOf}
 use Rattle.table.specs.Sections.{recordByte}
-use Rattle.table.specs.Records.{
-  rightClass,
-  rightLetterSign,
-  rightEntrySign,
-  rightSignAfter,
-  rightTransition,
-  rightCondition,
-  rightDecision,
-  symbols,
-  rightNewSymbol,
-  letterRule,
-  rightStringByte,
-  rightContextByte,
-  entryRule,
-  contextRule,
-  transitionRule,
-  decisionRule,
-  rightRecord,
-}
-use Rattle.table.specs.Refusals.{symbolOf}
+use Rattle.table.specs.Records.{rightClass, rightLetterSign, rightNewSymbol, letterRule, rightEntrySign, rightSignAfter, rightTransition, rightCondition, rightDecision, symbols, rightStringByte, rightContextByte, entryRule, contextRule, transitionRule, decisionRule, wrongByte}
+use Rattle.table.specs.inside.Judging.{signBefore}
 use Rattle.table.specs.declared.Sections.{Sections}
-use Rattle.table.proofs.Tests.{Tells, same-tests, tells-and, every-law, both}
+use Rattle.table.proofs.Search.{first-same}
 use Rattle.table.proofs.Lists.{length-listOf, getD-listOf}
-use Rattle.table.proofs.RightRecords.{Passes, right-record-law}
 
--- ---- The tests of a list, joined to what came before
+-- ---- Past tests that pass
 
-joined : Bool → List Bool → Bool
-joined before [] = before
-joined before (test ∷ rule) = joined (before && test) rule
+-- so many bytes on
+abbrev pub past : ℕ → Option ℕ → Option ℕ
+past n none = none
+past n (some j) = some (n + j)
 
-joined-law : (before : Bool) (rule : List Bool) → Tells (joined before rule) ((before ≡ true) × Passes rule)
-unfolding joined
-joined-law before [] = (λ e. (e, λ j l. absurd (omega arith)), λ h. h .0)
-joined-law before (test ∷ rule) =
-    Iff·trans (joined-law (before && test) rule) (
-      λ h. let p = both before test (h .0) in (p .0, each (p .1) (h .1)),
-      λ h. (rw (h .0) (h .1 0 (omega arith)), λ j l. h .1 (suc j) (omega arith)),
-    )
+first-past : (test : ℕ → Bool) (i n : ℕ) → firstFrom test (suc i) n ≡ past 1 (firstFrom (λ j. test (suc j)) i n)
+unfolding firstFrom
+first-past test i zero = refl
+first-past test i (suc n) = go (test (suc i)) refl (first-past test (suc i) n)
   where
-    each : test ≡ true → Passes rule → Passes (test ∷ rule)
-    each e h zero l = e
-    each e h (suc j) l = h j (omega arith)
+    go : (b : Bool) → test (suc i) ≡ b → firstFrom test (suc (suc i)) n ≡ past 1 (firstFrom (λ j. test (suc j)) (suc i) n)
+        → firstFrom test (suc i) (suc n) ≡ past 1 (firstFrom (λ j. test (suc j)) i (suc n))
+    go true e h = rw (e, firstFrom) (ap some (omega arith))
+    go false e h = rw (e, firstFrom) h
 
--- a record is right where the conjunction of its tests is
-right-joined : (rule : List Bool) → rightRecord rule ≡ joined true rule
-right-joined rule = same-tests (right-record-law rule) (Iff·trans (joined-law true rule) (λ h. h .1, λ h. (refl, h)))
+-- an empty rule has none
+none-wrong : wrongByte [] ≡ none
+unfolding wrongByte firstFrom
+none-wrong = refl
 
-joined-append : (before : Bool) (xs ys : List Bool) → joined before (xs ++ ys) ≡ joined (joined before xs) ys
-unfolding joined
-joined-append before [] ys = refl
-joined-append before (x ∷ xs) ys = joined-append (before && x) xs ys
+-- a test that fails is the first
+wrong-first : (rule : List Bool) → wrongByte (false ∷ rule) ≡ some 0
+unfolding wrongByte firstFrom
+wrong-first rule = refl
 
-joined-places : (before : Bool) (f : ℕ → Bool) (n : ℕ) → joined before (listOf f n) ≡ (before && every f n)
-joined-places before f n =
-    same-tests (joined-law before (listOf f n))
-    (Iff·trans (tells-and (λ e. e, λ e. e) (every-law f n)) (
-      λ h. (h .0, λ j l. let u : j < n = rw (length-listOf f n) at l in getD-listOf f n j true u ∙ h .1 j u),
-      λ h. (h .0, λ k l. sym (getD-listOf f n k true l) ∙ h .1 k (rw (length-listOf f n) l)),
-    ))
+-- past one that passes
+wrong-past : (rule : List Bool) → wrongByte (true ∷ rule) ≡ past 1 (wrongByte rule)
+unfolding wrongByte firstFrom
+wrong-past rule = first-past (λ j. not (getD (true ∷ rule) j true)) 0 (length rule)
+
+-- among the first tests
+wrong-among : (xs ys : List Bool) (j : ℕ) → wrongByte xs ≡ some j → wrongByte (xs ++ ys) ≡ some j
+wrong-among [] ys j e = let z : _≡_ {A = ℕ} 0 1 = cc (none-wrong, e) in absurd (omega arith)
+wrong-among (false ∷ xs) ys j e = wrong-first (xs ++ ys) ∙ sym (wrong-first xs) ∙ e
+wrong-among (true ∷ xs) ys j e = go (wrongByte xs) refl (sym (wrong-past xs) ∙ e) (λ i f. wrong-among xs ys i f)
+  where
+    go : (o : Option ℕ) → wrongByte xs ≡ o → past 1 (wrongByte xs) ≡ some j → ((i : ℕ) → wrongByte xs ≡ some i → wrongByte (xs ++ ys) ≡ some i)
+        → wrongByte (true ∷ xs ++ ys) ≡ some j
+    go none f h later = let z : _≡_ {A = ℕ} 0 1 = cc in absurd (omega arith)
+    go (some i) f h later = wrong-past (xs ++ ys) ∙ ap (past 1) (later i f ∙ sym f) ∙ h
+
+-- past the first tests, where all of them pass
+wrong-beyond : (xs ys : List Bool) → wrongByte xs ≡ none → wrongByte (xs ++ ys) ≡ past (length xs) (wrongByte ys)
+wrong-beyond [] ys e = go (wrongByte ys) refl
+  where
+    go : (o : Option ℕ) → wrongByte ys ≡ o → wrongByte ys ≡ past 0 (wrongByte ys)
+    go none f = rw f
+    go (some j) f = rw f (ap some (omega arith))
+wrong-beyond (false ∷ xs) ys e = let z : _≡_ {A = ℕ} 0 1 = cc (wrong-first xs, e) in absurd (omega arith)
+wrong-beyond (true ∷ xs) ys e = go (wrongByte xs) refl (sym (wrong-past xs) ∙ e) (λ f. wrong-beyond xs ys f)
+  where
+    more : (o : Option ℕ) → past 1 (past (length xs) o) ≡ past (suc (length xs)) o
+    more none = refl
+    more (some j) = ap some (omega arith)
+
+    go : (o : Option ℕ) → wrongByte xs ≡ o → past 1 (wrongByte xs) ≡ none
+        → (wrongByte xs ≡ none → wrongByte (xs ++ ys) ≡ past (length xs) (wrongByte ys)) → wrongByte (true ∷ xs ++ ys) ≡ past (suc (length xs)) (wrongByte ys)
+    go none f h later = wrong-past (xs ++ ys) ∙ ap (past 1) (later f) ∙ more (wrongByte ys)
+    go (some i) f h later = let z : _≡_ {A = ℕ} 0 1 = cc in absurd (omega arith)
+
+-- a list of tests by places
+wrong-of-places : (f : ℕ → Bool) (n : ℕ) → wrongByte (listOf f n) ≡ first (λ j. not (f j)) n
+unfolding wrongByte
+wrong-of-places f n =
+    ap (first (λ j. not (getD (listOf f n) j true))) (length-listOf f n)
+    ∙ first-same (λ j. not (getD (listOf f n) j true)) (λ j. not (f j)) n (λ j l. ap not (getD-listOf f n j true l))
 
 -- ---- The rule of each section
 
 module _ (image : List ℕ) (s : Sections) (k : ℕ) where
-  pub context-tests : rightRecord (contextRule image s k) ≡ every (λ j. rightClass s (recordByte image (s .contexts) k j)) contextSize
+  pub context-wrong : wrongByte (contextRule image s k) ≡ first (λ j. not (rightClass s (recordByte image (s .contexts) k j))) contextSize
   unfolding contextRule
-  context-tests = right-joined (contextRule image s k) ∙ joined-places true _ contextSize
+  context-wrong = wrong-of-places _ contextSize
 
-  pub transition-tests : rightRecord (transitionRule image s k) ≡ every (λ j. rightTransition (recordByte image (s .transitions) k j)) (s .classes)
+  pub transition-wrong : wrongByte (transitionRule image s k) ≡ first (λ j. not (rightTransition (recordByte image (s .transitions) k j))) (s .classes)
   unfolding transitionRule
-  transition-tests = right-joined (transitionRule image s k) ∙ joined-places true _ (s .classes)
+  transition-wrong = wrong-of-places _ (s .classes)
 
-  abbrev conditionTest : ℕ → Bool
-  conditionTest v = rightCondition (recordByte image (s .decisions) k (s .classes + v))
+  -- of an alphabet record: the symbol, the class, the sign
+  abbrev pub symbolTest : Bool
+  symbolTest = rightNewSymbol (take k (symbols image s)) (recordByte image (s .alphabet) k symbolByte)
 
-  pub decision-tests : rightRecord (decisionRule image s k)
-      ≡ (every (λ j. rightDecision (recordByte image (s .decisions) k j)) (s .classes)
-      && every conditionTest (s .variables))
+  abbrev pub letterClassTest : Bool
+  letterClassTest = rightClass s (recordByte image (s .alphabet) k letterClassByte)
+
+  abbrev pub letterSignTest : Bool
+  letterSignTest = rightLetterSign (recordByte image (s .alphabet) k letterSignByte)
+
+  pub symbol-wrong : symbolTest ≡ false → wrongByte (letterRule image s k) ≡ some symbolByte
+  unfolding letterRule
+  symbol-wrong e = rw e (wrong-first (letterClassTest ∷ letterSignTest ∷ []))
+
+  pub letter-class-wrong : symbolTest ≡ true → letterClassTest ≡ false → wrongByte (letterRule image s k) ≡ some letterClassByte
+  unfolding letterRule
+  letter-class-wrong e f = rw (e, f) (wrong-past (false ∷ letterSignTest ∷ []) ∙ ap (past 1) (wrong-first (letterSignTest ∷ [])))
+
+  pub letter-sign-wrong : symbolTest ≡ true → letterClassTest ≡ true → letterSignTest ≡ false → wrongByte (letterRule image s k) ≡ some letterSignByte
+  unfolding letterRule
+  letter-sign-wrong e f g = rw (e, f, g) (wrong-past (true ∷ false ∷ []) ∙ ap (past 1) (wrong-past (false ∷ []) ∙ ap (past 1) (wrong-first [])))
+
+  pub letter-passes : symbolTest ≡ true → letterClassTest ≡ true → letterSignTest ≡ true → wrongByte (letterRule image s k) ≡ none
+  unfolding letterRule
+  letter-passes e f g =
+      rw (e, f, g) (wrong-past (true ∷ true ∷ []) ∙ ap (past 1) (wrong-past (true ∷ []) ∙ ap (past 1) (wrong-past [] ∙ ap (past 1) none-wrong)))
+
+  -- of a decision column: among the bytes of the classes, or past them
+  abbrev pub decisionWrong : Option ℕ
+  decisionWrong = first (λ j. not (rightDecision (recordByte image (s .decisions) k j))) (s .classes)
+
+  abbrev pub conditionWrong : Option ℕ
+  conditionWrong = first (λ v. not (rightCondition (recordByte image (s .decisions) k (s .classes + v)))) (s .variables)
+
+  pub decision-among : (j : ℕ) → decisionWrong ≡ some j → wrongByte (decisionRule image s k) ≡ some j
   unfolding decisionRule
-  decision-tests =
-      right-joined (decisionRule image s k)
-      ∙ joined-append true (listOf _ (s .classes)) _
-      ∙ ap (λ (b : Bool). joined b (listOf conditionTest (s .variables))) (joined-places true _ (s .classes))
-      ∙ joined-places _ _ (s .variables)
+  decision-among j e = wrong-among _ _ j (wrong-of-places _ (s .classes) ∙ e)
 
-  pub letter-tests : rightRecord (letterRule image s k)
-      ≡ (rightNewSymbol (take k (symbols image s)) (symbolOf image s k)
-      && rightClass s (recordByte image (s .alphabet) k letterClassByte)
-      && rightLetterSign (recordByte image (s .alphabet) k letterSignByte))
-  unfolding letterRule joined
-  letter-tests = right-joined (letterRule image s k)
+  pub decision-beyond : decisionWrong ≡ none → wrongByte (decisionRule image s k) ≡ past (s .classes) conditionWrong
+  unfolding decisionRule
+  decision-beyond e =
+      wrong-beyond _ _ (wrong-of-places _ (s .classes) ∙ e)
+      ∙ ap (λ (n : ℕ). past n (wrongByte (listOf (λ v. rightCondition (recordByte image (s .decisions) k (s .classes + v))) (s .variables)))) (length-listOf _ (s .classes))
+      ∙ ap (past (s .classes)) (wrong-of-places _ (s .variables))
 
   abbrev byte : ℕ → ℕ
   byte = recordByte image (s .contractions) k
 
-  abbrev stringTest : ℕ → Bool
-  stringTest i = rightStringByte (symbols image s) (byte lengthByte) i (byte (stringByte + i))
+  abbrev pub lengthTest : Bool
+  lengthTest = within leastLength mostLength (byte lengthByte)
 
-  -- what follows the string in a contraction record, joined to what came before
-  abbrev afterString : Bool → Bool
-  afterString before =
-      before
-      && rightContextByte s (byte lengthByte) (byte contextByte)
-      && rightClass s (byte entryClassByte)
-      && within leastShift (byte lengthByte) (byte shiftByte)
-      && rightEntrySign (byte signsByte)
-      && rightSignAfter (byte signsByte) (byte (signsByte + 1))
-      && rightSignAfter (byte (signsByte + 1)) (byte (signsByte + 2))
-      && rightSignAfter (byte (signsByte + 2)) (byte (signsByte + 3))
+  abbrev pub stringWrong : Option ℕ
+  stringWrong = first (λ i. not (rightStringByte (symbols image s) (byte lengthByte) i (byte (stringByte + i)))) mostLength
 
-  pub entry-tests : rightRecord (entryRule image s k) ≡ afterString (within leastLength mostLength (byte lengthByte) && every stringTest mostLength)
-  unfolding entryRule joined listFrom
-  entry-tests =
-      right-joined (entryRule image s k)
-      ∙ ap afterString (joined-places (within leastLength mostLength (byte lengthByte)) stringTest mostLength)
+  abbrev pub contextTest : Bool
+  contextTest = rightContextByte s (byte lengthByte) (byte contextByte)
+
+  abbrev pub classTest : Bool
+  classTest = rightClass s (byte entryClassByte)
+
+  abbrev pub shiftTest : Bool
+  shiftTest = within leastShift (byte lengthByte) (byte shiftByte)
+
+  abbrev pub signsWrong : Option ℕ
+  signsWrong = first (λ i. not (rightSignAfter (signBefore image (s .contractions) k i) (byte (signsByte + i)))) entrySigns
+
+  signsRule : List Bool
+  signsRule =
+      rightEntrySign (byte signsByte) ∷ listOf (λ i. rightSignAfter (byte (signsByte + i)) (byte (signsByte + 1 + i))) (entrySigns - 1)
+
+  -- each sign by the one before it
+  signs-by-places : signsRule ≡ listOf (λ i. rightSignAfter (signBefore image (s .contractions) k i) (byte (signsByte + i))) entrySigns
+  unfolding signsRule listFrom rightSignAfter
+  signs-by-places = refl
+
+  -- of a contraction record: the length
+  pub length-wrong : lengthTest ≡ false → wrongByte (entryRule image s k) ≡ some 0
+  unfolding entryRule
+  length-wrong e = rw e (wrong-first _)
+
+  -- the string
+  pub string-wrong : (i : ℕ) → lengthTest ≡ true → stringWrong ≡ some i → wrongByte (entryRule image s k) ≡ some (stringByte + i)
+  unfolding entryRule
+  string-wrong i e f =
+      rw e
+      (wrong-among (true ∷ listOf _ mostLength) _ (stringByte + i)
+      (wrong-past (listOf _ mostLength) ∙ ap (past 1) (wrong-of-places _ mostLength ∙ f)))
+
+  -- what follows the string
+  afterString : List Bool
+  afterString = contextTest ∷ classTest ∷ shiftTest ∷ signsRule
+
+  after-string : lengthTest ≡ true → stringWrong ≡ none → wrongByte (entryRule image s k) ≡ past contextByte (wrongByte afterString)
+  unfolding entryRule afterString signsRule
+  after-string e f =
+      rw e
+      (wrong-beyond (true ∷ listOf _ mostLength) afterString (wrong-past (listOf _ mostLength) ∙ ap (past 1) (wrong-of-places _ mostLength ∙ f))
+      ∙ ap (λ (n : ℕ). past (suc n) (wrongByte afterString)) (length-listOf _ mostLength))
+
+  pub context-byte-wrong : lengthTest ≡ true → stringWrong ≡ none → contextTest ≡ false → wrongByte (entryRule image s k) ≡ some contextByte
+  unfolding afterString
+  context-byte-wrong e f c =
+      let here : wrongByte afterString ≡ some 0 = rw c (wrong-first (classTest ∷ shiftTest ∷ signsRule)) in
+      after-string e f ∙ ap (past contextByte) here
+
+  pub class-byte-wrong : lengthTest ≡ true → stringWrong ≡ none → contextTest ≡ true → classTest ≡ false → wrongByte (entryRule image s k) ≡ some entryClassByte
+  unfolding afterString
+  class-byte-wrong e f c d =
+      let here : wrongByte afterString ≡ some 1 = rw (c, d) (wrong-past (false ∷ shiftTest ∷ signsRule) ∙ ap (past 1) (wrong-first (shiftTest ∷ signsRule))) in
+      after-string e f ∙ ap (past contextByte) here
+
+  pub shift-byte-wrong : lengthTest ≡ true → stringWrong ≡ none → contextTest ≡ true → classTest ≡ true → shiftTest ≡ false
+      → wrongByte (entryRule image s k) ≡ some shiftByte
+  unfolding afterString
+  shift-byte-wrong e f c d g =
+      let here : wrongByte afterString ≡ some 2 =
+      rw (c, d, g) (wrong-past (true ∷ false ∷ signsRule) ∙ ap (past 1) (wrong-past (false ∷ signsRule) ∙ ap (past 1) (wrong-first signsRule))) in
+      after-string e f ∙ ap (past contextByte) here
+
+  -- the signs
+  pub signs-beyond : lengthTest ≡ true → stringWrong ≡ none → contextTest ≡ true → classTest ≡ true → shiftTest ≡ true
+      → wrongByte (entryRule image s k) ≡ past signsByte signsWrong
+  unfolding afterString
+  signs-beyond e f c d g =
+      let there : wrongByte afterString ≡ past 1 (past 1 (past 1 signsWrong)) =
+      rw (c, d, g)
+      (wrong-past (true ∷ true ∷ signsRule) ∙ ap (past 1) (wrong-past (true ∷ signsRule) ∙ ap (past 1) (wrong-past signsRule ∙ ap (past 1) last))) in
+      after-string e f ∙ ap (past contextByte) there ∙ far signsWrong
+    where
+      last : wrongByte signsRule ≡ signsWrong
+      last = ap wrongByte signs-by-places ∙ wrong-of-places _ entrySigns
+
+      far : (o : Option ℕ) → past contextByte (past 1 (past 1 (past 1 o))) ≡ past signsByte o
+      far none = refl
+      far (some j) = ap some (omega arith)

@@ -2,7 +2,7 @@
 use Prim.Native.Nat.{ℕ, zero, suc, _+_, _≤_, _<_}
 use mathlib.Core.Bool.{Bool, true, false}
 use mathlib.Core.Option.{Option, none, some}
-use mathlib.Core.Path.{_≡_, refl, _∙_, ap, subst}
+use mathlib.Core.Path.{_≡_, refl, sym, _∙_, ap, subst}
 use native.Mathlib.Decide.{ℕ-discrete, decLt}
 use native.Mathlib.Omega.{arith}
 use Rattle.table.specs.Search.{firstFrom}
@@ -113,6 +113,23 @@ module _ (test : ℕ → Bool) where
 
   pub found-none : (n k : ℕ) → ((j : ℕ) → j < k → test j ≡ false) → n ≤ k → firstFrom test 0 n ≡ none
   found-none n k fails l = first-is-not 0 n (λ j _ u. fails j (omega arith))
+
+-- two tests that agree on the numbers have the same first
+pub first-same : (f g : ℕ → Bool) (n : ℕ) → ((k : ℕ) → k < n → f k ≡ g k) → firstFrom f 0 n ≡ firstFrom g 0 n
+first-same f g n same = go (firstFrom g 0 n) refl
+  where
+    go : (o : Option ℕ) → firstFrom g 0 n ≡ o → firstFrom f 0 n ≡ firstFrom g 0 n
+    go none e = first-is-not f 0 n (λ j l u. same j (omega arith) ∙ first-missing g 0 n e j l u) ∙ sym e
+    go (some k) e =
+        let r = first-found g 0 n k e in
+        first-is f 0 n k
+        (record {
+          low = r .low;
+          high = r .high;
+          passes = same k (omega (arith, r .high)) ∙ r .passes;
+          earlier = λ j l u. same j (omega (arith, r .high)) ∙ r .earlier j l u;
+        })
+        ∙ sym e
 
 -- ---- What the code answers tells what the search finds
 

@@ -1,5 +1,5 @@
 -- The verdict, check by check, as the code goes: what each of its answers makes of the verdict.
-use Prim.Native.Nat.{ℕ}
+use Prim.Native.Nat.{ℕ, _+_}
 use mathlib.Core.Bool.{not}
 use mathlib.Core.List.{List}
 use mathlib.Core.Option.{Option, none, some}
@@ -13,12 +13,12 @@ use Rattle.table.specs.Sections.{offset}
 use Rattle.table.specs.Records.{symbols, sectionNamed, Wrong, firstWrong}
 use Rattle.table.specs.Table.{tableIn}
 use Rattle.table.specs.Grouping.{firstBreak}
-use Rattle.table.specs.Verdict.{strings, groupingVerdict, blankVerdict, recordsVerdict}
+use Rattle.table.specs.Verdict.{refusalIn, strings, groupingVerdict, blankVerdict, recordsVerdict}
 use Rattle.table.specs.Refusals.{sectionsBefore}
 use Rattle.table.specs.inside.Found.{found}
 use Rattle.table.specs.inside.Judging.{letterNumber, nameAt, foundWrong}
 use Rattle.table.specs.declared.Sections.{Sections}
-use Rattle.table.specs.declared.Refusal.the-variants.{Record, NoBlank, Grouping}
+use Rattle.table.specs.declared.Refusal.the-variants.{NoBlank, Grouping}
 use Rattle.table.specs.declared.Verdict.the-variants.{Accepted, Refused}
 use Rattle.table.specs.declared.Found.the-variants.{At as FoundAt, Nothing}
 use Rattle.table.specs.declared.records.WrongRecord.the-variants.{At, AllRight}
@@ -29,18 +29,19 @@ use Rattle.table.proofs.LetterNumbers.{number-in-alphabet}
 module _ (image : List ℕ) (s : Sections) where
   -- ---- The records
 
-  pub wrong-refused : (i k : ℕ) → foundWrong (firstWrong image s) ≡ At i k
-      → recordsVerdict image s ≡ Refused (Record (offset (sectionNamed s (nameAt i)) k))
+  pub wrong-refused : (i k j : ℕ) → foundWrong (firstWrong image s) ≡ At i k j
+      → recordsVerdict image s ≡ Refused (refusalIn (nameAt i) (offset (sectionNamed s (nameAt i)) k + j))
   unfolding recordsVerdict
-  wrong-refused i k e = go (firstWrong image s) refl e
+  wrong-refused i k j e = go (firstWrong image s) refl e
     where
-      go : (o : Option Wrong) → firstWrong image s ≡ o → foundWrong o ≡ At i k
-          → recordsVerdict image s ≡ Refused (Record (offset (sectionNamed s (nameAt i)) k))
+      go : (o : Option Wrong) → firstWrong image s ≡ o → foundWrong o ≡ At i k j
+          → recordsVerdict image s ≡ Refused (refusalIn (nameAt i) (offset (sectionNamed s (nameAt i)) k + j))
       go none f e = let z : _≡_ {A = ℕ} 0 1 = cc in absurd (omega arith)
       go (some w) f e =
           let number : sectionsBefore (w .section) ≡ i = cc in
           let index : w .index ≡ k = cc in
-          rw (f, recordsVerdict, ← number, ← index, named-by-number (w .section))
+          let byte : w .byte ≡ j = cc in
+          rw (f, recordsVerdict, ← number, ← index, ← byte, named-by-number (w .section))
 
   pub records-right : foundWrong (firstWrong image s) ≡ AllRight → recordsVerdict image s ≡ blankVerdict image s
   unfolding recordsVerdict

@@ -1,4 +1,4 @@
--- The numbers of document 01 for the table image and for the refusals of every call, each said once: 'Cells', 'The table image', 'What comes back'.
+-- The numbers of documents 01 and 02 for the table image and for the refusals of every call, each said once: 'Cells', 'The table image', 'What comes back'.
 use Prim.Native.Nat.{ℕ}
 
 -- ---- Cells: 0 to 63 are cells, 0 is the blank, and in a table 64 means blank too. 99 is no cell
@@ -204,8 +204,21 @@ numberDone = 0
 abbrev pub numberFrame : ℕ
 numberFrame = 1
 
-abbrev pub numberRecord : ℕ
-numberRecord = 2
+-- a wrong record, by its section
+abbrev pub numberAlphabet : ℕ
+numberAlphabet = 2
+
+abbrev pub numberContractions : ℕ
+numberContractions = 11
+
+abbrev pub numberContexts : ℕ
+numberContexts = 12
+
+abbrev pub numberTransitions : ℕ
+numberTransitions = 13
+
+abbrev pub numberDecisions : ℕ
+numberDecisions = 14
 
 abbrev pub numberNoBlank : ℕ
 numberNoBlank = 3

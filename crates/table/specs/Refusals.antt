@@ -1,12 +1,13 @@
--- 'What comes back', refusals 1 to 4: what each line of the table says, in the paper's words. Nothing here is a test, a search or a verdict: 'right' is
--- a conjunction of the paper's conditions, and 'first' is a quantifier. proofs/Refusals.antt shows that a refusal is given exactly where its line holds
--- and no earlier one does.
+-- 'What comes back', the refusals of a table: what each line says, in the papers' words. Nothing here is a test, a search or a verdict: 'right' is a
+-- conjunction of the paper's conditions, of a record and of each of its bytes, and 'first' is a quantifier. proofs/Refusals.antt shows that a refusal is
+-- given exactly where its line holds and no earlier one does.
 use Prim.Native.Nat.{ℕ, _+_, _-_, _*_, _≤_, _<_}
-use mathlib.Core.List.{List}
+use mathlib.Core.List.{List, [], _∷_, _++_}
 use mathlib.Core.Logic.{_⊎_}
 use mathlib.Core.Path.{_≡_}
 use lib.ListN.{length, getD}
-use Rattle.table.specs.Numbers.{otherBlank, noCell, signLineEnd, signPageEnd, trailerSize, firstMarkByte, secondMarkByte, firstMark, secondMark, leastClasses, mostClasses, mostVariables, letterSize, leastLetters, mostLetters, entrySize, leastEntries, mostEntries, contextSize, leastContexts, mostContexts, leastColumns, mostColumns, leastClass, symbolByte, letterClassByte, letterSignByte, lengthByte, stringByte, contextByte, entryClassByte, shiftByte, signsByte, leastLength, mostLength, padding, noContext, leastShift, entrySigns, leastSymbol, mostSymbol, blank, bar, turnNo, turnYes, turnOther, accepts, rejects, byteYes, byteNo, dash, numberDone, numberFrame, numberRecord, numberNoBlank, numberGrouping, noPlace}
+use Rattle.table.specs.Numbers.{otherBlank, noCell, signLineEnd, signPageEnd, trailerSize, firstMarkByte, secondMarkByte, firstMark, secondMark, leastClasses, mostClasses, mostVariables, letterSize, leastLetters, mostLetters, entrySize, leastEntries, mostEntries, contextSize, leastContexts, mostContexts, leastColumns, mostColumns, leastClass, symbolByte, letterClassByte, letterSignByte, lengthByte, stringByte, contextByte, entryClassByte, shiftByte, signsByte, leastLength, mostLength, padding, noContext, leastShift, entrySigns, leastSymbol, mostSymbol, blank, bar, turnNo, turnYes, turnOther, accepts, rejects, byteYes, byteNo, dash, numberDone, numberFrame, numberAlphabet, numberContractions, numberContexts, numberTransitions, numberDecisions, numberNoBlank, numberGrouping, noPlace}
+use Rattle.table.specs.Search.{listOf}
 use Rattle.table.specs.Sections.{byteAt, trailerAt, distance, classesIn, variablesIn, sectionsIn, offset, recordByte}
 use Rattle.table.specs.Records.{SectionName, alphabet, contractions, contexts, transitions, decisions, sectionNamed}
 use Rattle.table.specs.Table.{Letter, tableIn}
@@ -51,7 +52,7 @@ pub record FrameRight (image : List ℕ) : Type 0 where
 abbrev pub Refusal1 : List ℕ → Type 0
 Refusal1 image = FrameRight image → ⊥
 
--- ---- 2: wrong record. What a byte may be
+-- ---- 2, 11, 12, 13, 14: wrong record. What a byte may be
 
 -- from 1 to the number of classes
 abbrev pub IsClass : Sections → ℕ → Type 0
@@ -90,7 +91,7 @@ pub record InAlphabet (image : List ℕ) (s : Sections) (c : ℕ) : Type 0 where
   pub there : letter < s .alphabet .records
   pub symbol : symbolOf image s letter ≡ c
 
--- ---- 2: wrong record. A right record of each section
+-- ---- 2, 11, 12, 13, 14: wrong record. A right record of each section
 
 pub record RightLetter (image : List ℕ) (s : Sections) (k : ℕ) : Type 0 where
   -- symbol 32..126, not 124, and not that of an earlier record
@@ -144,7 +145,49 @@ There s name k = k < sectionNamed s name .records
 abbrev pub RecordsRight : List ℕ → Sections → Type 0
 RecordsRight image s = (name : SectionName) (k : ℕ) → There s name k → RightRecord image s name k
 
--- ---- 2: wrong record. The first one, in image order
+-- ---- 2, 11, 12, 13, 14: wrong record. What each byte of a right record is, in byte order
+
+abbrev pub letterBytes : List ℕ → Sections → ℕ → List (Type 0)
+letterBytes image s k =
+    -- symbol 32..126, not 124, and not that of an earlier record
+    (Between leastSymbol mostSymbol (symbolOf image s k) × (symbolOf image s k ≡ bar → ⊥) × ((j : ℕ) → j < k → symbolOf image s j ≡ symbolOf image s k → ⊥))
+    ∷ IsClass s (recordByte image (s .alphabet) k letterClassByte)
+    ∷ IsLetterSign (recordByte image (s .alphabet) k letterSignByte)
+    ∷ []
+
+-- a character of the alphabet below the length, 0 past it
+abbrev pub IsStringByte : List ℕ → Sections → ℕ → ℕ → ℕ → Type 0
+IsStringByte image s len i c = (i < len → InAlphabet image s c) × (len ≤ i → c ≡ padding)
+
+-- an entry sign, and after a 99 only 99
+abbrev pub IsSignAfter : ℕ → ℕ → Type 0
+IsSignAfter before g = IsEntrySign g × (before ≡ noCell → g ≡ noCell)
+
+abbrev pub entryBytes : List ℕ → Sections → ℕ → List (Type 0)
+entryBytes image s k =
+    let byte : ℕ → ℕ = entryByte image s k in
+    (Between leastLength mostLength (byte lengthByte) ∷ listOf (λ i. IsStringByte image s (byte lengthByte) i (byte (stringByte + i))) mostLength)
+    -- a right context that exists, and 0 where the length is 10
+    ++ (ContextExists s (byte contextByte) × (byte lengthByte ≡ mostLength → byte contextByte ≡ noContext))
+    ∷ IsClass s (byte entryClassByte)
+    ∷ Between leastShift (byte lengthByte) (byte shiftByte)
+    ∷ IsEntrySign (byte signsByte)
+    ∷ listOf (λ i. IsSignAfter (byte (signsByte + i)) (byte (signsByte + 1 + i))) (entrySigns - 1)
+
+abbrev pub bytesOf : List ℕ → Sections → SectionName → ℕ → List (Type 0)
+bytesOf image s alphabet k = letterBytes image s k
+bytesOf image s contractions k = entryBytes image s k
+bytesOf image s contexts k = listOf (λ j. IsClass s (recordByte image (s .contexts) k j)) contextSize
+bytesOf image s transitions k = listOf (λ j. IsTransition (recordByte image (s .transitions) k j)) (s .classes)
+bytesOf image s decisions k =
+    listOf (λ j. IsDecision (recordByte image (s .decisions) k j)) (s .classes)
+    ++ listOf (λ v. IsCondition (recordByte image (s .decisions) k (s .classes + v))) (s .variables)
+
+-- byte `j` of record `k` of a section is right; nothing is asked beyond the record
+abbrev pub RightByte : List ℕ → Sections → SectionName → ℕ → ℕ → Type 0
+RightByte image s name k j = getD (bytesOf image s name k) j (Unit {0})
+
+-- ---- 2, 11, 12, 13, 14: wrong record. The first wrong byte of the first one, in image order
 
 -- how many sections lie before this one
 abbrev pub sectionsBefore : SectionName → ℕ
@@ -154,19 +197,22 @@ sectionsBefore contexts = 2
 sectionsBefore transitions = 3
 sectionsBefore decisions = 4
 
--- record `k` of the section is wrong, and every record before it in the image is right: those of earlier sections, and the earlier ones of its own
-pub record FirstWrong (image : List ℕ) (s : Sections) (name : SectionName) (k : ℕ) : Type 0 where
+-- byte `j` of record `k` of the section is wrong, every byte before it in the record is right, and every record before it in the image is right: those of
+-- earlier sections, and the earlier ones of its own
+pub record FirstWrong (image : List ℕ) (s : Sections) (name : SectionName) (k j : ℕ) : Type 0 where
   pub there : There s name k
-  pub wrong : RightRecord image s name k → ⊥
+  pub wrong : RightByte image s name k j → ⊥
+  pub bytes-right : (i : ℕ) → i < j → RightByte image s name k i
+  pub earlier-right : (i : ℕ) → i < k → RightRecord image s name i
   pub sections-right :
-      (a : SectionName) → sectionsBefore a < sectionsBefore name → (j : ℕ) → There s a j → RightRecord image s a j
-  pub earlier-right : (j : ℕ) → j < k → RightRecord image s name j
+      (a : SectionName) → sectionsBefore a < sectionsBefore name → (i : ℕ) → There s a i → RightRecord image s a i
 
-pub record Refusal2 (image : List ℕ) (at : ℕ) : Type 0 where
-  pub section : SectionName
+-- the place is the offset of that byte
+pub record WrongAt (image : List ℕ) (name : SectionName) (at : ℕ) : Type 0 where
   pub index : ℕ
-  pub first-wrong : FirstWrong image (sectionsIn image) section index
-  pub place : at ≡ offset (sectionNamed (sectionsIn image) section) index
+  pub byte : ℕ
+  pub first-wrong : FirstWrong image (sectionsIn image) name index byte
+  pub place : at ≡ offset (sectionNamed (sectionsIn image) name) index + byte
 
 -- ---- 3: no alphabet record for blank
 
@@ -184,20 +230,24 @@ pub record Refusal4 (image : List ℕ) (at : ℕ) : Type 0 where
   pub first-to-break : FirstToBreak (stringsIn image) index
   pub place : at ≡ offset (sectionsIn image .contractions) index
 
--- ---- The four lines of a table, in the order in which they are checked
+-- ---- The eight lines of a table, in the order in which they are checked
 
 abbrev pub tableLines : ℕ
-tableLines = 4
+tableLines = 8
 
 pub data Line (image : List ℕ) : ℕ → ℕ → ℕ → Type 0 where
   -- image under 14 bytes, or trailer or section lengths wrong
   line-1 : Refusal1 image → Line image 1 numberFrame noPlace
-  -- wrong record: offset of the first one, in image order
-  line-2 : {at : ℕ} → Refusal2 image at → Line image 2 numberRecord at
+  -- wrong record: the first wrong byte of the first one. 2 alphabet, 11 contractions, 12 contexts, 13 transitions, 14 decisions
+  line-2 : {at : ℕ} → WrongAt image alphabet at → Line image 2 numberAlphabet at
+  line-11 : {at : ℕ} → WrongAt image contractions at → Line image 3 numberContractions at
+  line-12 : {at : ℕ} → WrongAt image contexts at → Line image 4 numberContexts at
+  line-13 : {at : ℕ} → WrongAt image transitions at → Line image 5 numberTransitions at
+  line-14 : {at : ℕ} → WrongAt image decisions at → Line image 6 numberDecisions at
   -- no alphabet record for blank
-  line-3 : Refusal3 image → Line image 3 numberNoBlank noPlace
+  line-3 : Refusal3 image → Line image 7 numberNoBlank noPlace
   -- grouping broken: offset of the first record that breaks it
-  line-4 : {at : ℕ} → Refusal4 image at → Line image 4 numberGrouping at
+  line-4 : {at : ℕ} → Refusal4 image at → Line image 8 numberGrouping at
 
 -- ---- The number and the place of a verdict
 

@@ -24,12 +24,12 @@ isThere none = false
 isThere (some a) = true
 
 -- f i, f (i + 1), .., `n` of them
-unfoldable pub listFrom : {A : Type 0} → (ℕ → A) → ℕ → ℕ → List A
+unfoldable pub listFrom {ℓ} : {A : Type ℓ} → (ℕ → A) → ℕ → ℕ → List A
 listFrom f i zero = []
 listFrom f i (suc n) = f i ∷ listFrom f (suc i) n
 
 -- f 0, f 1, .., `n` of them
-abbrev pub listOf : {A : Type 0} → (ℕ → A) → ℕ → List A
+abbrev pub listOf {ℓ} : {A : Type ℓ} → (ℕ → A) → ℕ → List A
 listOf f n = listFrom f 0 n
 
 -- `c` stands in the list

@@ -40,7 +40,11 @@ pub struct Sections {
 // that isn't fixed.
 pub enum Refusal {
     Frame,
-    Record(usize),
+    Alphabet(usize),
+    Contraction(usize),
+    Context(usize),
+    Transition(usize),
+    Decision(usize),
     NoBlank,
     Grouping(usize),
     Size,
@@ -62,7 +66,8 @@ pub struct Reader<'a> {
     pub verdict: Verdict,
 }
 
-// What a search answers: the number of a record in its section, or a place of a text.
+// What a search answers: the number of a record in its section, of a byte in its record, or a place
+// of a text.
 pub enum Found {
     At(u16),
     Nothing,

@@ -1,15 +1,16 @@
-// Right records: each kind of record is judged as specs/Records.antt has it, and the first wrong
-// one is found in image order. The alphabet's symbols are gathered once, so that a character is
-// looked up in one step.
+// Right records: each kind of record is judged byte by byte as specs/Records.antt has it, and the
+// first wrong byte of the first wrong record is found in image order. The alphabet's symbols are
+// gathered once, so that a character is looked up in one step.
 
 ghost use mathlib.Core.Path.{_≡_};
 ghost use Prim.Native.Nat.{_+_, _<_};
-ghost use Rattle.table.specs.Numbers.{leastClass, stringByte, mostLength};
-ghost use Rattle.table.specs.Search.{within, first, every};
+ghost use mathlib.Core.Bool.{not};
+ghost use Rattle.table.specs.Numbers.{leastClass, stringByte, signsByte, entrySigns, mostLength};
+ghost use Rattle.table.specs.Search.{within, first};
 ghost use Rattle.table.specs.Sections.{recordByte};
-ghost use Rattle.table.specs.Records.{rightSymbol, rightLetterSign, rightEntrySign, rightSignAfter, rightCondition, letterRule, entryRule, decisionRule, rightRecord, sectionNamed, firstWrong};
+ghost use Rattle.table.specs.Records.{rightSymbol, rightLetterSign, rightEntrySign, rightSignAfter, rightCondition, rightContextByte, letterRule, entryRule, decisionRule, wrongByte, sectionNamed, wrongIn, firstWrong};
 ghost use Rattle.table.specs.inside.Found.{found};
-ghost use Rattle.table.specs.inside.Judging.{LettersBySymbol, rightByte, rightCharacter, nameAt, rightAt, wrongAt, foundWrong};
+ghost use Rattle.table.specs.inside.Judging.{LettersBySymbol, rightByte, rightCharacter, signBefore, nameAt, wrongByteOf, foundIn, foundWrong};
 use crate::Found;
 use crate::Section;
 use crate::Sections;
@@ -24,9 +25,16 @@ pub(crate) enum Kind {
     Condition,
 }
 
-// The first wrong record: its section, counted from 0 in image order, and its number there.
+// The first wrong record of a section: its number, and its first wrong byte.
+pub(crate) enum WrongIn {
+    AtByte(u16, u16),
+    NoneWrong,
+}
+
+// The first wrong record of an image: its section, counted from 0 in image order, its number there,
+// and its first wrong byte.
 pub(crate) enum WrongRecord {
-    At(u8, u16),
+    At(u8, u16, u16),
     AllRight,
 }
 
@@ -107,19 +115,19 @@ fn byte_right(kind: Kind, b: u8) -> bool
     }
 }
 
-// Whether the `n` bytes from byte `from` of record `k` on are all of this kind.
-fn bytes_right(image: &[u8], s: Section, k: u16, from: u16, n: u16, kind: Kind) -> bool
+// The first of the `n` bytes from byte `from` of record `k` on that isn't of this kind.
+fn bytes_wrong(image: &[u8], s: Section, k: u16, from: u16, n: u16, kind: Kind) -> Found
     requires { ⌜ from + n < 65536 ⌝ }
-    ensures { λ r. ⌜ r ≡ every (λ j. rightByte kind (recordByte (now (image .entry)) s k (from + j))) n ⌝ }
+    ensures { λ r. ⌜ r ≡ found (first (λ j. not (rightByte kind (recordByte (now (image .entry)) s k (from + j)))) n) ⌝ }
 {
     let mut j = 0;
     while j < n {
         if !byte_right(kind, record_byte(image, s, k, from + j)) {
-            return false;
+            return Found::At(j);
         }
         j += 1;
     }
-    true
+    Found::Nothing
 }
 
 // Whether byte `i` of the ten string bytes is right, in a string of `len` characters.
@@ -133,68 +141,110 @@ fn character_right(letters: &[u16; 256], len: u8, i: u16, c: u8) -> bool
     }
 }
 
-// Whether the ten string bytes of contraction record `k`, `len` characters long, are right.
-fn string_right(image: &[u8], contractions: Section, letters: &[u16; 256], k: u16, len: u8) -> bool
-    ensures { λ r. ⌜ r ≡ every (λ i. rightCharacter (now (letters .entry)) len i (recordByte (now (image .entry)) contractions k (stringByte + i))) mostLength ⌝ }
+// The first wrong one of the ten string bytes of contraction record `k`, `len` characters long.
+fn string_wrong(image: &[u8], contractions: Section, letters: &[u16; 256], k: u16, len: u8) -> Found
+    ensures { λ r. ⌜ r ≡ found (first (λ i. not (rightCharacter (now (letters .entry)) len i (recordByte (now (image .entry)) contractions k (stringByte + i)))) mostLength) ⌝ }
 {
     let mut i = 0;
     while i < 10 {
         if !character_right(letters, len, i, record_byte(image, contractions, k, 1 + i)) {
-            return false;
+            return Found::At(i);
         }
         i += 1;
     }
-    true
+    Found::Nothing
 }
 
-// Whether alphabet record `k` is right. Its symbol is not that of an earlier record where the
-// number by its symbol is its own.
-fn letter_right(image: &[u8], s: Sections, letters: &[u16; 256], k: u16) -> bool
+// Whether a context number is right where the string has `len` characters: it exists, and is 0
+// where the length is 10.
+fn context_right(s: Sections, len: u8, context: u8) -> bool
+    ensures { λ r. ⌜ r ≡ rightContextByte s len context ⌝ }
+{
+    (context as u16 <= s.contexts.records) & ((context == 0) | !(len == 10))
+}
+
+// The first wrong one of the four signs of contraction record `k`.
+fn signs_wrong(image: &[u8], contractions: Section, k: u16) -> Found
+    ensures { λ r. ⌜ r ≡ found (first (λ i. not (rightSignAfter (signBefore (now (image .entry)) contractions k i) (recordByte (now (image .entry)) contractions k (signsByte + i)))) entrySigns) ⌝ }
+{
+    let mut before = 0;
+    let mut i = 0;
+    while i < 4 {
+        let sign = record_byte(image, contractions, k, 14 + i);
+        if !sign_after_right(before, sign) {
+            return Found::At(i);
+        }
+        before = sign;
+        i += 1;
+    }
+    Found::Nothing
+}
+
+// The first wrong byte of alphabet record `k`. Its symbol is not that of an earlier record where
+// the number by its symbol is its own.
+fn letter_wrong(image: &[u8], s: Sections, letters: &[u16; 256], k: u16) -> Found
     requires { ⌜ LettersBySymbol (now image) (s .alphabet) (now letters) × (k < s .alphabet .records) ⌝ }
-    ensures { λ r. ⌜ r ≡ rightRecord (letterRule (now (image .entry)) s k) ⌝ }
+    ensures { λ r. ⌜ r ≡ found (wrongByte (letterRule (now (image .entry)) s k)) ⌝ }
 {
     let alphabet = s.alphabet;
     let symbol = record_byte(image, alphabet, k, 0);
     let new = letters[symbol as usize] == k + 1;
-    (symbol_right(symbol) & new)
-        & class_right(s.classes, record_byte(image, alphabet, k, 1))
-        & letter_sign_right(record_byte(image, alphabet, k, 2))
+    if !(symbol_right(symbol) & new) {
+        return Found::At(0);
+    }
+    if !class_right(s.classes, record_byte(image, alphabet, k, 1)) {
+        return Found::At(1);
+    }
+    if !letter_sign_right(record_byte(image, alphabet, k, 2)) {
+        return Found::At(2);
+    }
+    Found::Nothing
 }
 
-// Whether contraction record `k` is right.
-fn entry_right(image: &[u8], s: Sections, letters: &[u16; 256], k: u16) -> bool
+// The first wrong byte of contraction record `k`.
+fn entry_wrong(image: &[u8], s: Sections, letters: &[u16; 256], k: u16) -> Found
     requires { ⌜ LettersBySymbol (now image) (s .alphabet) (now letters) ⌝ }
-    ensures { λ r. ⌜ r ≡ rightRecord (entryRule (now (image .entry)) s k) ⌝ }
+    ensures { λ r. ⌜ r ≡ found (wrongByte (entryRule (now (image .entry)) s k)) ⌝ }
 {
     let contractions = s.contractions;
     let len = record_byte(image, contractions, k, 0);
-    let context = record_byte(image, contractions, k, 11);
+    if !((1 <= len) & (len <= 10)) {
+        return Found::At(0);
+    }
+    if let Found::At(i) = string_wrong(image, contractions, letters, k, len) {
+        return Found::At(1 + i);
+    }
+    if !context_right(s, len, record_byte(image, contractions, k, 11)) {
+        return Found::At(11);
+    }
+    if !class_right(s.classes, record_byte(image, contractions, k, 12)) {
+        return Found::At(12);
+    }
     let shift = record_byte(image, contractions, k, 13);
-    let first = record_byte(image, contractions, k, 14);
-    let second = record_byte(image, contractions, k, 15);
-    let third = record_byte(image, contractions, k, 16);
-    let fourth = record_byte(image, contractions, k, 17);
-    ((1 <= len) & (len <= 10))
-        & string_right(image, contractions, letters, k, len)
-        & ((context as u16 <= s.contexts.records) & ((context == 0) | !(len == 10)))
-        & class_right(s.classes, record_byte(image, contractions, k, 12))
-        & ((1 <= shift) & (shift <= len))
-        & entry_sign_right(first)
-        & sign_after_right(first, second)
-        & sign_after_right(second, third)
-        & sign_after_right(third, fourth)
+    if !((1 <= shift) & (shift <= len)) {
+        return Found::At(13);
+    }
+    match signs_wrong(image, contractions, k) {
+        Found::At(i) => Found::At(14 + i),
+        Found::Nothing => Found::Nothing,
+    }
 }
 
-// Whether decision column `k` is right.
-fn decision_right(image: &[u8], s: Sections, k: u16) -> bool
+// The first wrong byte of decision column `k`.
+fn decision_wrong(image: &[u8], s: Sections, k: u16) -> Found
     requires { ⌜ s .classes + s .variables < 65536 ⌝ }
-    ensures { λ r. ⌜ r ≡ rightRecord (decisionRule (now (image .entry)) s k) ⌝ }
+    ensures { λ r. ⌜ r ≡ found (wrongByte (decisionRule (now (image .entry)) s k)) ⌝ }
 {
     let decisions = s.decisions;
     let classes = s.classes;
     let variables = s.variables;
-    bytes_right(image, decisions, k, 0, classes, Kind::Decision)
-        & bytes_right(image, decisions, k, classes, variables, Kind::Condition)
+    if let Found::At(j) = bytes_wrong(image, decisions, k, 0, classes, Kind::Decision) {
+        return Found::At(j);
+    }
+    match bytes_wrong(image, decisions, k, classes, variables, Kind::Condition) {
+        Found::At(v) => Found::At(classes + v),
+        Found::Nothing => Found::Nothing,
+    }
 }
 
 // Section `i`, counted from 0 in image order.
@@ -210,38 +260,39 @@ pub(crate) fn section_at(s: Sections, i: u8) -> Section
     }
 }
 
-// Whether record `k` of section `i` is right.
-fn record_right(image: &[u8], s: Sections, letters: &[u16; 256], i: u8, k: u16) -> bool
+// The first wrong byte of record `k` of section `i`.
+fn record_wrong(image: &[u8], s: Sections, letters: &[u16; 256], i: u8, k: u16) -> Found
     requires { ⌜ LettersBySymbol (now image) (s .alphabet) (now letters) × (s .classes + s .variables < 65536) × (k < sectionNamed s (nameAt i) .records) ⌝ }
-    ensures { λ r. ⌜ r ≡ rightAt (now (image .entry)) s i k ⌝ }
+    ensures { λ r. ⌜ r ≡ found (wrongByteOf (now (image .entry)) s i k) ⌝ }
 {
     let contexts = s.contexts;
     let transitions = s.transitions;
     let classes = s.classes;
     match i {
-        0 => letter_right(image, s, letters, k),
-        1 => entry_right(image, s, letters, k),
-        2 => bytes_right(image, contexts, k, 0, 4, Kind::Class(classes)),
-        3 => bytes_right(image, transitions, k, 0, classes, Kind::Transition),
-        _ => decision_right(image, s, k),
+        0 => letter_wrong(image, s, letters, k),
+        1 => entry_wrong(image, s, letters, k),
+        2 => bytes_wrong(image, contexts, k, 0, 4, Kind::Class(classes)),
+        3 => bytes_wrong(image, transitions, k, 0, classes, Kind::Transition),
+        _ => decision_wrong(image, s, k),
     }
 }
 
 // The first wrong record of section `i`.
-fn wrong_in(image: &[u8], s: Sections, letters: &[u16; 256], i: u8) -> Found
+fn wrong_in(image: &[u8], s: Sections, letters: &[u16; 256], i: u8) -> WrongIn
     requires { ⌜ LettersBySymbol (now image) (s .alphabet) (now letters) × (s .classes + s .variables < 65536) ⌝ }
-    ensures { λ r. ⌜ r ≡ found (first (wrongAt (now (image .entry)) s i) (sectionNamed s (nameAt i) .records)) ⌝ }
+    ensures { λ r. ⌜ r ≡ foundIn (wrongIn (now (image .entry)) s (nameAt i)) ⌝ }
 {
     let section = section_at(s, i);
     let records = section.records;
     let mut k = 0;
     while k < records {
-        if !record_right(image, s, letters, i, k) {
-            return Found::At(k);
+        match record_wrong(image, s, letters, i, k) {
+            Found::At(j) => return WrongIn::AtByte(k, j),
+            Found::Nothing => {}
         }
         k += 1;
     }
-    Found::Nothing
+    WrongIn::NoneWrong
 }
 
 // The first wrong record in image order.
@@ -252,8 +303,8 @@ pub(crate) fn first_wrong(image: &[u8], s: Sections, letters: &[u16; 256]) -> Wr
     let mut i = 0;
     while i < 5 {
         match wrong_in(image, s, letters, i) {
-            Found::At(k) => return WrongRecord::At(i, k),
-            Found::Nothing => {}
+            WrongIn::AtByte(k, j) => return WrongRecord::At(i, k, j),
+            WrongIn::NoneWrong => {}
         }
         i += 1;
     }

@@ -10,7 +10,11 @@ impl Refusal {
     {
         match self {
             Refusal::Frame => 1,
-            Refusal::Record(_) => 2,
+            Refusal::Alphabet(_) => 2,
+            Refusal::Contraction(_) => 11,
+            Refusal::Context(_) => 12,
+            Refusal::Transition(_) => 13,
+            Refusal::Decision(_) => 14,
             Refusal::NoBlank => 3,
             Refusal::Grouping(_) => 4,
             Refusal::Size => 5,
@@ -26,7 +30,11 @@ impl Refusal {
     {
         match self {
             Refusal::Frame => 0,
-            Refusal::Record(at) => at,
+            Refusal::Alphabet(at) => at,
+            Refusal::Contraction(at) => at,
+            Refusal::Context(at) => at,
+            Refusal::Transition(at) => at,
+            Refusal::Decision(at) => at,
             Refusal::NoBlank => 0,
             Refusal::Grouping(at) => at,
             Refusal::Size => 0,

@@ -1,4 +1,4 @@
--- 'What comes back', as far as translation goes: refusals 1 to 4, then the caller's own, then 6 and 7, or the pieces.
+-- 'What comes back', as far as translation goes: the refusals of a table, then the caller's own, then 6 and 7, or the pieces.
 use Prim.Native.Nat.{ℕ}
 use mathlib.Core.Bool.{true, false}
 use mathlib.Core.List.{List}
@@ -29,7 +29,7 @@ translateBy table setting text =
       | false ↦ refused LongText
     ]
 
--- 1 to 4: the verdict on the image. What the caller's own checks say comes next
+-- the refusals of a table: the verdict on the image. What the caller's own checks say comes next
 unfoldable pub translateOn : Terms → List ℕ → List ℕ → Result
 translateOn terms image text =
     elim (verdictOf image) [

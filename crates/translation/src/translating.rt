@@ -52,8 +52,8 @@ fn translate_by(
     }
 }
 
-// Refusals 1 to 4, or the caller's own, or what the table of the image makes of the text, by the
-// sections and the verdict that the image was opened with.
+// The refusals of a table, or the caller's own, or what the table of the image makes of the text,
+// by the sections and the verdict that the image was opened with.
 fn translate_judged(
     image: &[u8],
     s: Sections,

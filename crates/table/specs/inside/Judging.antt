@@ -1,21 +1,23 @@
 -- What the code that judges records speaks of: the letters by their symbols, the kinds of bytes, the sections by their number in image order. No heading of
 -- document 01.
-use Prim.Native.Nat.{ℕ, _+_, _<_}
+use Prim.Native.Nat.{ℕ, zero, suc, _+_, _<_}
 use mathlib.Core.Bool.{Bool, cond, not}
 use mathlib.Core.List.{List}
 use mathlib.Core.Option.{Option, none, some}
 use mathlib.Core.Path.{_≡_}
 use lib.Dec.{ltb, eqb}
 use lib.ListN.{length, getD}
-use Rattle.table.specs.Numbers.{symbolByte, padding, leastClass}
+use Rattle.table.specs.Numbers.{blankCell, symbolByte, signsByte, padding, leastClass}
 use Rattle.table.specs.Search.{within, first}
 use Rattle.table.specs.Sections.{recordByte}
-use Rattle.table.specs.Records.{rightTransition, rightCondition, rightDecision, rightRecord, SectionName, decisions, ruleOf, imageOrder, Wrong}
+use Rattle.table.specs.Records.{rightTransition, rightCondition, rightDecision, wrongByte, SectionName, decisions, ruleOf, imageOrder, Wrong}
 use Rattle.table.specs.Refusals.{sectionsBefore}
 use Rattle.table.specs.declared.Section.{Section}
 use Rattle.table.specs.declared.Sections.{Sections}
 use Rattle.table.specs.declared.records.Kind.{Kind}
 use Rattle.table.specs.declared.records.Kind.the-variants.{Class, Transition, Decision, Condition}
+use Rattle.table.specs.declared.records.WrongIn.{WrongIn}
+use Rattle.table.specs.declared.records.WrongIn.the-variants.{AtByte, NoneWrong}
 use Rattle.table.specs.declared.records.WrongRecord.{WrongRecord}
 use Rattle.table.specs.declared.records.WrongRecord.the-variants.{At, AllRight}
 
@@ -43,6 +45,11 @@ LettersBySymbol image alphabet letters = Gathered image alphabet (alphabet .reco
 unfoldable pub rightCharacter : List ℕ → ℕ → ℕ → ℕ → Bool
 rightCharacter letters len i c = cond (ltb i len) (not (eqb (getD letters c 0) 0)) (eqb c padding)
 
+-- the sign before the i-th of contraction record `k`; before the first stands none, which is as good as a blank
+abbrev pub signBefore : List ℕ → Section → ℕ → ℕ → ℕ
+signBefore image contractions k zero = blankCell
+signBefore image contractions k (suc i) = recordByte image contractions k (signsByte + i)
+
 -- ---- Bytes of one kind
 
 abbrev pub rightByte : Kind → ℕ → Bool
@@ -56,13 +63,15 @@ rightByte Condition b = rightCondition b
 abbrev pub nameAt : ℕ → SectionName
 nameAt i = getD imageOrder i decisions
 
-abbrev pub rightAt : List ℕ → Sections → ℕ → ℕ → Bool
-rightAt image s i k = rightRecord (ruleOf image s (nameAt i) k)
+-- the first wrong byte of record `k` of section `i`
+abbrev pub wrongByteOf : List ℕ → Sections → ℕ → ℕ → Option ℕ
+wrongByteOf image s i k = wrongByte (ruleOf image s (nameAt i) k)
 
--- record `k` of section `i` is wrong
-abbrev pub wrongAt : List ℕ → Sections → ℕ → ℕ → Bool
-wrongAt image s i k = not (rightAt image s i k)
+-- the first wrong record of the section, and its first wrong byte
+abbrev pub foundIn : Option Wrong → WrongIn
+foundIn none = NoneWrong
+foundIn (some w) = AtByte (w .index) (w .byte)
 
 abbrev pub foundWrong : Option Wrong → WrongRecord
 foundWrong none = AllRight
-foundWrong (some w) = At (sectionsBefore (w .section)) (w .index)
+foundWrong (some w) = At (sectionsBefore (w .section)) (w .index) (w .byte)

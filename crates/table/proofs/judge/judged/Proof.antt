@@ -3,12 +3,14 @@ use borrow.Author.Needs.{needs}
 use mathlib.Core.Path.{_≡_, sym, _∙_, ap}
 use native.Mathlib.Omega.{arith}
 use Rattle.table.specs.Numbers.{blank}
-use Rattle.table.specs.Verdict.{groupingVerdict, blankVerdict, recordsVerdict}
+use Rattle.table.specs.Verdict.{refusalIn, groupingVerdict, blankVerdict, recordsVerdict}
 use Rattle.table.proofs.VerdictSteps.{wrong-refused, records-right, no-blank-refused, blank-there, break-refused, grouped-accepted}
-use Prim.Native.Nat.{ℕ}
+use Prim.Native.Nat.{ℕ, _+_}
 use Rattle.table.specs.Sections.{offset}
 use Rattle.table.specs.declared.Section.{Section}
-use Rattle.table.specs.declared.Refusal.the-variants.{Record, Grouping}
+use Rattle.table.specs.inside.Judging.{nameAt}
+use Rattle.table.specs.declared.Refusal.{Refusal}
+use Rattle.table.specs.declared.Refusal.the-variants.{Grouping}
 use Rattle.table.specs.declared.Verdict.the-variants.{Refused}
 use Rattle.table.proofs.judge.judged.Statement.{statement}
 use Rattle.table.proofs.judge.judged.Tie as tie
@@ -28,13 +30,28 @@ section-at-requires c κs = search needs
 offset-of-requires : tie.Need-offset-of-requires
 offset-of-requires c κs = search needs
 
+cast-at : tie.Need-cast-at
+cast-at c = search needs
+
+add-at : tie.Need-add-at
+add-at c = search needs
+
+refusal-in-requires : tie.Need-refusal-in-requires
+refusal-in-requires c κs = search needs
+
 returns : tie.Need-returns
 returns c =
-    let a = c .before .before .before .before .before .before .before .before .before .args in
-    let found = c .before .before .before .i .given in
-    let told = sym (c .before .before .before .before .before .first-wrong .ensures) ∙ found .1 in
-    let place = c .offset-of .ensures .0 ∙ ap (λ (x : Section). offset x (found .0 .1 .0)) (c .before .section-at .ensures) in
-    sym (wrong-refused (a .image .now) (a .s) (found .0 .0) (found .0 .1 .0) told ∙ ap (λ (at : ℕ). Refused (Record at)) (sym place))
+    let a = c .before .before .before .before .before .before .before .before .before .before .args in
+    let found = c .before .before .before .before .i .given in
+    let told = sym (c .before .before .before .before .before .before .first-wrong .ensures) ∙ found .1 in
+    let i = found .0 .0 in
+    let k = found .0 .1 .0 in
+    let j = found .0 .1 .1 .0 in
+    let place = c .before .offset-of .ensures .0 ∙ ap (λ (x : Section). offset x k) (c .before .before .section-at .ensures) in
+    sym
+    (wrong-refused (a .image .now) (a .s) i k j told
+    ∙ ap (λ (at : ℕ). Refused (refusalIn (nameAt i) (at + j))) (sym place)
+    ∙ ap (λ (r : Refusal). Refused r) (sym (c .refusal-in .ensures)))
 
 enum-told : tie.Need-enum-told
 enum-told c = search needs
@@ -99,6 +116,9 @@ judged-spec =
     enum-known-i
     section-at-requires
     offset-of-requires
+    cast-at
+    add-at
+    refusal-in-requires
     returns
     enum-told
     array-read-if1

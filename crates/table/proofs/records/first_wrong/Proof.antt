@@ -30,7 +30,7 @@ returns c =
     let a = c .before .before .before .before .before .before .before .args in
     let i = c .before .before .before .before .before .loop .i in
     let told = sym (c .before .before .before .wrong-in .ensures) ∙ c .before .k .given .1 in
-    let here = wrong-here (a .image .now) (a .s) i (c .before .k .given .0 .0) (omega arith) told in
+    let here = wrong-here (a .image .now) (a .s) i (c .before .k .given .0 .0) (c .before .k .given .0 .1 .0) (omega arith) told in
     sym (ap foundWrong (c .before .before .before .before .before .loop .inv .1) ∙ here)
 
 enum-told : tie.Need-enum-told Inv-loop μ-loop

@@ -2,19 +2,19 @@
 use borrow.Author.Count.{below-more}
 use borrow.Author.Needs.{needs}
 use Prim.Native.Nat.{ℕ, _-_, _≤_, _<_}
-use mathlib.Core.Bool.{false, not}
+use mathlib.Core.Bool.{false}
 use mathlib.Core.Path.{_≡_, sym, _∙_, ap}
 use native.Mathlib.Omega.{arith}
 use Rattle.table.specs.Records.{sectionNamed}
-use Rattle.table.specs.inside.Found.{found}
-use Rattle.table.specs.inside.Judging.{nameAt, wrongAt}
-use Rattle.table.proofs.Search.{found-first, found-none}
+use Rattle.table.specs.inside.Judging.{nameAt, wrongByteOf}
+use Rattle.table.proofs.Search.{found-at, found-nothing}
+use Rattle.table.proofs.SectionOrder.{isWrong, right-without, found-in, none-in}
 use Rattle.table.specs.declared.Section.{Section}
 use Rattle.table.proofs.records.wrong_in.Statement.{statement}
 use Rattle.table.proofs.records.wrong_in.Tie as tie
 
 abbrev Inv-loop : tie.InvT-loop
-Inv-loop image s letters i records k₀ k = (k ≤ records) × ((j : ℕ) → j < k → wrongAt image s i j ≡ false)
+Inv-loop image s letters i records k₀ k = (k ≤ records) × ((m : ℕ) → m < k → isWrong image s i m ≡ false)
 
 abbrev μ-loop : tie.MeasureT-loop
 μ-loop image s letters i records k₀ k = records - k
@@ -28,23 +28,28 @@ counted : (c : tie.After-section-at Inv-loop μ-loop)
 counted c = ap (λ (x : Section). x .records) (c .section-at .ensures)
 
 loop-holds : tie.Need-loop-holds Inv-loop μ-loop
-loop-holds c = (omega arith, λ j l. absurd (omega arith))
+loop-holds c = (omega arith, λ m l. absurd (omega arith))
 
-record-right-requires : tie.Need-record-right-requires Inv-loop μ-loop
-record-right-requires c κs =
+record-wrong-requires : tie.Need-record-wrong-requires Inv-loop μ-loop
+record-wrong-requires c κs =
     let e = counted (c .before .before) in
     let pre = c .before .before .before .before .pre in
     (pre .0, pre .1, omega arith)
 
+enum-known-j : tie.Need-enum-known-j Inv-loop μ-loop
+enum-known-j c = search needs
+
 returns : tie.Need-returns Inv-loop μ-loop
 returns c =
-    let a = c .before .before .before .before .before .before .args in
-    let e = counted (c .before .before .before .before) in
-    let inv = c .before .before .before .loop .inv in
-    ap found
-    (sym
-    (found-first (wrongAt (a .image .now) (a .s) (a .i)) _ (c .before .before .before .loop .k) (inv .1) (omega arith)
-    (ap not (sym (c .before .record-right .ensures)) ∙ c .if1 .taken)))
+    let a = c .before .before .before .before .before .before .before .before .args in
+    let e = counted (c .before .before .before .before .before .before) in
+    let at = c .before .before .before .before .before .loop in
+    let j = c .before .j .given .0 .0 in
+    let told = sym (c .before .before .before .record-wrong .ensures) ∙ c .before .j .given .1 in
+    sym (found-in (a .image .now) (a .s) (a .i) (at .k) j (at .inv .1) (omega arith) (found-at (wrongByteOf (a .image .now) (a .s) (a .i) (at .k)) j told))
+
+enum-told : tie.Need-enum-told Inv-loop μ-loop
+enum-told c = search needs
 
 add-k : tie.Need-add-k Inv-loop μ-loop
 add-k c = omega arith
@@ -54,13 +59,17 @@ loop-less c = omega arith
 
 loop-again : tie.Need-loop-again Inv-loop μ-loop
 loop-again c =
-    (omega arith, below-more _ _ (c .before .before .before .loop .inv .1) (ap not (sym (c .before .record-right .ensures)) ∙ c .if1 .left))
+    let a = c .before .before .before .before .before .before .before .args in
+    let at = c .before .before .before .before .loop in
+    let told = sym (c .before .before .record-wrong .ensures) ∙ c .enum-told .given .1 in
+    let right = right-without (a .image .now) (a .s) (a .i) (at .k) (found-nothing (wrongByteOf (a .image .now) (a .s) (a .i) (at .k)) told) in
+    (omega arith, below-more _ _ (at .inv .1) right)
 
 returns-2 : tie.Need-returns-2 Inv-loop μ-loop
 returns-2 c =
     let a = c .before .before .before .before .args in
     let e = counted (c .before .before) in
-    ap found (sym (found-none (wrongAt (a .image .now) (a .s) (a .i)) _ (c .before .loop .k) (c .before .loop .inv .1) (omega arith)))
+    sym (none-in (a .image .now) (a .s) (a .i) (c .before .loop .k) (c .before .loop .inv .1) (omega arith))
 
 pub wrong-in-spec : {M : Type 1} → statement M
 wrong-in-spec =
@@ -70,8 +79,10 @@ wrong-in-spec =
     μ-loop
     section-at-requires
     loop-holds
-    record-right-requires
+    record-wrong-requires
+    enum-known-j
     returns
+    enum-told
     add-k
     loop-less
     loop-again

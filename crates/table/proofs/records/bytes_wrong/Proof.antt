@@ -1,26 +1,26 @@
--- `table::records::bytes_right` meets its contract. The loop's invariant: the bytes passed are all of the kind.
+-- `table::records::bytes_wrong` meets its contract. The loop's invariant: the bytes passed are all of the kind.
 use borrow.Author.Count.{below-more}
 use borrow.Author.Needs.{needs}
-use borrow.Author.Tests.{not-true, not-false}
 use Prim.Native.Nat.{ℕ, _+_, _-_, _≤_, _<_}
-use mathlib.Core.Bool.{Bool, true}
-use mathlib.Core.Path.{_≡_, sym, _∙_}
+use mathlib.Core.Bool.{Bool, false, not}
+use mathlib.Core.Path.{_≡_, sym, _∙_, ap}
 use native.Mathlib.Omega.{arith}
 use Rattle.table.specs.Sections.{recordByte}
 use Rattle.table.specs.inside.Judging.{rightByte}
-use Rattle.table.proofs.Tests.{every-law, every-fails}
+use Rattle.table.specs.inside.Found.{found}
+use Rattle.table.proofs.Search.{found-first, found-none}
 use mathlib.Core.List.{List}
 use Rattle.table.specs.declared.Section.{Section}
 use Rattle.table.specs.declared.records.Kind.{Kind}
-use Rattle.table.proofs.records.bytes_right.Statement.{statement}
-use Rattle.table.proofs.records.bytes_right.Tie as tie
+use Rattle.table.proofs.records.bytes_wrong.Statement.{statement}
+use Rattle.table.proofs.records.bytes_wrong.Tie as tie
 
--- the test of byte `i`
-abbrev passes : List ℕ → Section → ℕ → ℕ → Kind → ℕ → Bool
-passes image s k from kind i = rightByte kind (recordByte image s k (from + i))
+-- byte `i` fails the test
+abbrev fails : List ℕ → Section → ℕ → ℕ → Kind → ℕ → Bool
+fails image s k from kind i = not (rightByte kind (recordByte image s k (from + i)))
 
 abbrev Inv-loop : tie.InvT-loop
-Inv-loop image s k from n kind j₀ j = (j ≤ n) × ((i : ℕ) → i < j → passes image s k from kind i ≡ true)
+Inv-loop image s k from n kind j₀ j = (j ≤ n) × ((i : ℕ) → i < j → fails image s k from kind i ≡ false)
 
 abbrev μ-loop : tie.MeasureT-loop
 μ-loop image s k from n kind j₀ j = n - j
@@ -39,16 +39,18 @@ byte-right-requires c κs = search needs
 
 -- the byte that was read is judged by that test
 judged : (c : tie.After-byte-right Inv-loop μ-loop)
-    → (let a = c .before .before .before .before .before .args in passes (a .image .now) (a .s) (a .k) (a .from) (a .kind) (c .before .before .before .loop .j))
-    ≡ c .byte-right .result
-judged c = rw (← c .before .record-byte .ensures .is) (sym (c .byte-right .ensures))
+    → (let a = c .before .before .before .before .before .args in fails (a .image .now) (a .s) (a .k) (a .from) (a .kind) (c .before .before .before .loop .j))
+    ≡ not (c .byte-right .result)
+judged c = rw (← c .before .record-byte .ensures .is) (ap not (sym (c .byte-right .ensures)))
 
 returns : tie.Need-returns Inv-loop μ-loop
 returns c =
     let a = c .before .before .before .before .before .before .args in
-    sym
-    (every-fails (passes (a .image .now) (a .s) (a .k) (a .from) (a .kind)) (a .n) (c .before .before .before .before .loop .j)
-    (omega arith) (judged (c .before) ∙ not-true _ (c .if1 .taken)))
+    let at = c .before .before .before .before .loop in
+    ap found
+    (sym
+    (found-first (fails (a .image .now) (a .s) (a .k) (a .from) (a .kind)) (a .n) (at .j) (at .inv .1) (omega arith)
+    (judged (c .before) ∙ c .if1 .taken)))
 
 add-j : tie.Need-add-j Inv-loop μ-loop
 add-j c = omega arith
@@ -57,15 +59,16 @@ loop-less : tie.Need-loop-less Inv-loop μ-loop
 loop-less c = omega arith
 
 loop-again : tie.Need-loop-again Inv-loop μ-loop
-loop-again c = (omega arith, below-more _ _ (c .before .before .before .before .loop .inv .1) (judged (c .before) ∙ not-false _ (c .if1 .left)))
+loop-again c = (omega arith, below-more _ _ (c .before .before .before .before .loop .inv .1) (judged (c .before) ∙ c .if1 .left))
 
 returns-2 : tie.Need-returns-2 Inv-loop μ-loop
 returns-2 c =
     let a = c .before .before .before .args in
-    sym (every-law (passes (a .image .now) (a .s) (a .k) (a .from) (a .kind)) (a .n) .1 (λ i l. c .before .loop .inv .1 i (omega arith)))
+    ap found
+    (sym (found-none (fails (a .image .now) (a .s) (a .k) (a .from) (a .kind)) (a .n) (c .before .loop .j) (c .before .loop .inv .1) (omega arith)))
 
-pub bytes-right-spec : {M : Type 1} → statement M
-bytes-right-spec =
+pub bytes-wrong-spec : {M : Type 1} → statement M
+bytes-wrong-spec =
     tie.close
     (tie.spec
     Inv-loop

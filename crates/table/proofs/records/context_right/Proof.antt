@@ -1,0 +1,12 @@
+-- `table::records::context_right` meets its contract: the tests are the definition's.
+use borrow.Author.Needs.{needs}
+use Rattle.table.specs.Records.{rightContextByte}
+use Rattle.table.proofs.records.context_right.Statement.{statement}
+use Rattle.table.proofs.records.context_right.Tie as tie
+
+returns : tie.Need-returns
+unfolding rightContextByte
+returns c = search needs
+
+pub context-right-spec : {M : Type 1} → statement M
+context-right-spec = tie.close (tie.spec returns)
