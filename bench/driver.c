@@ -37,6 +37,7 @@ enum {
     MOST_IMAGE = 23505,
     MOST_TEXT = 16384,
     ROOM = 160000,
+    FOLLOWING = ' ',
     TEXT_BYTES = 262144,
     WIDTH = 38,
     PAGE = 25,
@@ -72,6 +73,7 @@ struct input {
     uint64_t image_length;
     const uint8_t *text;
     uint64_t text_length;
+    uint8_t following;
     uint64_t width, page, room;
 };
 
@@ -84,7 +86,8 @@ static double run(int c, const struct input *in)
 {
     double began = now();
 
-    calls[c].call(in->image, in->image_length, in->text, in->text_length, in->width, in->page, out[c], in->room, answer[c]);
+    calls[c].call(in->image, in->image_length, in->text, in->text_length, in->following, in->width, in->page, out[c], in->room,
+                  answer[c]);
     return now() - began;
 }
 
@@ -96,13 +99,14 @@ static void compare(const struct input *in, uint64_t bytes)
     for (c = 1; c < CALLS; c++) {
         for (i = 0; i < VALUES; i++)
             if (answer[c][i] != answer[PROVED][i])
-                fail("a difference: value %d of the answer is %llu, and of '%s' %llu (text of %llu bytes, W %llu, P %llu, room %llu)", i,
-                     (unsigned long long)answer[PROVED][i], calls[c].name, (unsigned long long)answer[c][i],
-                     (unsigned long long)in->text_length, (unsigned long long)in->width, (unsigned long long)in->page,
+                fail("a difference: value %d of the answer is %llu, and of '%s' %llu (text of %llu bytes, followed by %u, W %llu, P %llu, "
+                     "room %llu)",
+                     i, (unsigned long long)answer[PROVED][i], calls[c].name, (unsigned long long)answer[c][i],
+                     (unsigned long long)in->text_length, in->following, (unsigned long long)in->width, (unsigned long long)in->page,
                      (unsigned long long)in->room);
         if (memcmp(out[c], out[PROVED], bytes) != 0)
-            fail("a difference: the output of '%s' (text of %llu bytes, W %llu, P %llu, room %llu)", calls[c].name,
-                 (unsigned long long)in->text_length, (unsigned long long)in->width, (unsigned long long)in->page,
+            fail("a difference: the output of '%s' (text of %llu bytes, followed by %u, W %llu, P %llu, room %llu)", calls[c].name,
+                 (unsigned long long)in->text_length, in->following, (unsigned long long)in->width, (unsigned long long)in->page,
                  (unsigned long long)in->room);
     }
     compared++;
@@ -306,7 +310,7 @@ static uint64_t section_end(uint64_t at, uint64_t most)
 
 static struct input input(const uint8_t *table, uint64_t length, const uint8_t *lent, uint64_t n)
 {
-    struct input in = {table, length, lent, n, WIDTH, PAGE, ROOM};
+    struct input in = {table, length, lent, n, FOLLOWING, WIDTH, PAGE, ROOM};
     return in;
 }
 
@@ -382,7 +386,7 @@ static uint64_t make_table(int n, uint8_t *made)
     return length;
 }
 
-/* ---- The twin is a twin: each refusal, at every byte of the table and at the limits */
+/* ---- The twin is a twin: each refusal, at every byte of the table and at the limits, and each symbol that can follow */
 
 static void compare_refusals(const struct input *sound)
 {
@@ -435,6 +439,20 @@ static void compare_refusals(const struct input *sound)
         in.text_length = i * 8 + 1;
         check(&in);
         lent[i * 8] = text[i * 8];
+    }
+    /* What follows a text that ends one character further on each time, by turns with room, without, and with a character that is in
+       no alphabet. */
+    in = *sound;
+    in.text = lent;
+    for (i = 0; i < 256; i++) {
+        in.following = i;
+        lend();
+        for (j = 0; j < 24; j++) {
+            in.text_length = 200 + j;
+            in.room = j % 3 == 1 ? 3 : ROOM;
+            lent[100] = j % 3 == 2 ? 1 : text[100];
+            check(&in);
+        }
     }
     in = *sound;
     check(&in);

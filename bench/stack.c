@@ -13,8 +13,8 @@ extern int pthread_attr_setstack(void *attr, void *at, size bytes);
 extern int pthread_create(void *thread, const void *attr, void *(*run)(void *), void *given);
 extern int pthread_join(unsigned long thread, void **answer);
 
-extern void tlopahuexi_emboss(const byte *image, size image_length, const byte *text, size text_length, size width, size length,
-                              byte *out, size out_length, unsigned long answer[6]);
+extern void tlopahuexi_emboss(const byte *image, size image_length, const byte *text, size text_length, byte following, size width,
+                              size length, byte *out, size out_length, unsigned long answer[6]);
 
 enum { STACK = 1 << 20, MOST = 65536 };
 
@@ -30,7 +30,7 @@ static void *nothing(void *given)
 
 static void *call(void *given)
 {
-    tlopahuexi_emboss(image, image_length, text, text_length, 60, 40, out, sizeof out, answer);
+    tlopahuexi_emboss(image, image_length, text, text_length, ' ', 60, 40, out, sizeof out, answer);
     return given;
 }
 

@@ -896,8 +896,8 @@ static void fill(const uint8_t *signs, struct counts n, size width, size page, u
     answer[PAGES] = end.pages;
 }
 
-void TWIN(const uint8_t *image, uint64_t image_length, const uint8_t *text, uint64_t text_length, uint64_t width, uint64_t page,
-          uint8_t *out, uint64_t room, uint64_t answer[VALUES])
+void TWIN(const uint8_t *image, uint64_t image_length, const uint8_t *text, uint64_t text_length, uint8_t following, uint64_t width,
+          uint64_t page, uint8_t *out, uint64_t room, uint64_t answer[VALUES])
 {
     uint8_t signs[65536], collapsed[16384];
     struct sections s = locate(image, image_length);
@@ -923,5 +923,9 @@ void TWIN(const uint8_t *image, uint64_t image_length, const uint8_t *text, uint
         store(answer, 7, unknown);
         return;
     }
-    fill(signs, consume(image, &s, ' ', collapsed, n, signs), width, page, out, room, answer);
+    if (!letter_of(image, &s, following)) {
+        store(answer, 15, 0);
+        return;
+    }
+    fill(signs, consume(image, &s, following, collapsed, n, signs), width, page, out, room, answer);
 }

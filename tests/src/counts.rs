@@ -63,6 +63,10 @@ counted! {
         FirstVariableByte: "first of several wrong bytes: a decision byte for a variable",
         WrongLater: "wrong records after a right one of their section",
         WrongInTwoSections: "wrong records in two sections",
+        UnknownAndFollowing: "refused 7 where the following symbol is not in the alphabet",
+        FollowingAndRoom: "refused 15 where the output is too short",
+        FollowingUnasked: "refused 15 where no entry has a right context",
+        FollowingNothing: "refused 15 where the text is empty",
         FullAlphabet: "tables of 63 alphabet records",
         FullContractions: "tables of 1,199 entries",
         FullContexts: "tables of 5 right contexts",
@@ -80,6 +84,8 @@ counted! {
         AlphabetPiece: "pieces of an alphabet record",
         ContextRejects: "entries rejected by their right context",
         ContextAtEnd: "right contexts asked past the end of the text",
+        FollowingHeld: "right contexts that hold the following symbol's class and not the blank's",
+        FollowingNotHeld: "right contexts that hold the blank's class and not the following symbol's",
         DecisionRejects: "entries rejected by the decision table",
         AcceptedByG: "accepted by G",
         AcceptedByY: "accepted by Y",
@@ -135,9 +141,9 @@ impl Notes {
         }
     }
 
-    /// Only what was wrong with the table, for a case that was refused.
-    pub fn add_wrong_table(&mut self, other: &Notes) {
-        for event in 0..=Event::WrongInTwoSections as usize {
+    /// Only what was wrong, for a case that was refused.
+    pub fn add_refused(&mut self, other: &Notes) {
+        for event in 0..=Event::FollowingNothing as usize {
             self.counts[event] += other.counts[event];
         }
     }

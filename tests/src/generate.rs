@@ -1,9 +1,9 @@
-//! Random cases from a seed: sound tables and damaged ones, texts dense in the table's own strings, widths
-//! and page lengths across and beyond their limits, output rooms around what is needed. The same seed gives
-//! the same case on every machine. Most cases are small; a few reach every limit.
+//! Random cases from a seed: sound tables and damaged ones, texts dense in the table's own strings, symbols that
+//! follow them, widths and page lengths across and beyond their limits, output rooms around what is needed. The
+//! same seed gives the same case on every machine. Most cases are small; a few reach every limit.
 
 use crate::counts::Notes;
-use crate::reference::emboss;
+use crate::reference::{emboss, Asked};
 use crate::table::{Entry, Table};
 
 /// The limits that the byte form of a case sets.
@@ -21,9 +21,16 @@ pub struct Case {
     pub kinds: Vec<Kind>,
     pub image: Vec<u8>,
     pub text: Vec<u8>,
+    pub following: u8,
     pub w: u64,
     pub p: u64,
     pub room: usize,
+}
+
+impl Case {
+    pub fn asked(&self) -> Asked<'_> {
+        Asked { image: &self.image, text: &self.text, following: self.following, w: self.w, p: self.p }
+    }
 }
 
 /// The splitmix64 generator.
@@ -69,7 +76,7 @@ pub fn case_seed(seed: u64, number: u64) -> u64 {
 }
 
 counted! {
-    /// What a case is made of: one kind of table, image, text, size and room each.
+    /// What a case is made of: one kind of table, image, text, following symbol, size and room each.
     Kind, KIND_WORDS {
         SmallTable: "tables of 0 to 8 entries",
         MiddleTable: "tables of 9 to 40 entries",
@@ -99,6 +106,14 @@ counted! {
         TextOf16380: "texts of 16,380 to 16,384 bytes",
         TextOver: "texts over 16,384 bytes",
         StrangeCharacter: "texts with any byte put in",
+        FollowingLetter: "symbols of the alphabet following",
+        FollowingBlank: "blanks following",
+        FollowingOther: "symbols 33 to 126 outside the alphabet following",
+        FollowingLineFeed: "line feeds following",
+        FollowingBar: "bars following",
+        FollowingByte0: "bytes 0 following",
+        FollowingByte255: "bytes 255 following",
+        FollowingByte: "other bytes following",
         SizesWithin: "W and P within their limits",
         SizesBeyond: "W or P beyond its limits, both below 256",
         SizesFar: "W or P of 256 and more",
@@ -117,7 +132,7 @@ counted! {
 pub fn case(seed: u64) -> Case {
     let random = &mut Random::new(seed);
     let mut kinds = vec![];
-    let (table, image, text) = if random.once_in(200) {
+    let (table, image, mut text) = if random.once_in(200) {
         let (table, text) = much_output(random);
         kinds.push(Kind::Sound);
         let image = table.image();
@@ -147,8 +162,10 @@ pub fn case(seed: u64) -> Case {
         (0..=255, 0..=255) => Kind::SizesBeyond,
         _ => Kind::SizesFar,
     });
-    let room = room(random, &image, &text, w, p, &mut kinds);
-    Case { seed, kinds, image, text, w, p, room }
+    end_in_entry(random, &table, &mut text);
+    let following = following(random, &table, &mut kinds);
+    let room = room(random, Asked { image: &image, text: &text, following, w, p }, &mut kinds);
+    Case { seed, kinds, image, text, following, w, p, room }
 }
 
 // Tables
@@ -660,6 +677,45 @@ fn text(random: &mut Random, table: &Table, kinds: &mut Vec<Kind>) -> Vec<u8> {
     text
 }
 
+/// In some texts the last characters give way to the whole string of an entry with a right context, so that the
+/// following symbol decides.
+fn end_in_entry(random: &mut Random, table: &Table, text: &mut [u8]) {
+    let asking: Vec<&Entry> = table.entries.iter().filter(|entry| entry.context != 0).collect();
+    if asking.is_empty() || !random.once_in(3) {
+        return;
+    }
+    let string = &random.any(&asking).string;
+    if let Some(from) = text.len().checked_sub(string.len()) {
+        text[from..].copy_from_slice(string);
+    }
+}
+
+/// The symbol that follows the text: mostly one of the table's.
+fn following(random: &mut Random, table: &Table, kinds: &mut Vec<Kind>) -> u8 {
+    let symbols: Vec<u8> = table.alphabet.iter().map(|letter| letter[0]).collect();
+    let following = match random.between(0, 99) {
+        0..=64 => random.any(&symbols),
+        65..=88 => b' ',
+        89..=91 => random.between(33, 126) as u8,
+        92..=93 => b'\n',
+        94..=95 => b'|',
+        96 => 0,
+        97 => 255,
+        _ => random.next() as u8,
+    };
+    kinds.push(match following {
+        b' ' => Kind::FollowingBlank,
+        b'\n' => Kind::FollowingLineFeed,
+        b'|' => Kind::FollowingBar,
+        0 => Kind::FollowingByte0,
+        255 => Kind::FollowingByte255,
+        _ if symbols.contains(&following) => Kind::FollowingLetter,
+        33..=126 => Kind::FollowingOther,
+        _ => Kind::FollowingByte,
+    });
+    following
+}
+
 /// A table each of whose entries prints as much as four signs can, and a long text of its strings: up to nine
 /// bytes for each character, some 147,500 in all.
 fn much_output(random: &mut Random) -> (Table, Vec<u8>) {
@@ -712,8 +768,8 @@ fn beyond(random: &mut Random, near: &[u64], low: usize, high: usize) -> u64 {
     }
 }
 
-fn room(random: &mut Random, image: &[u8], text: &[u8], w: u64, p: u64, kinds: &mut Vec<Kind>) -> usize {
-    let without_room = emboss(image, text, w, p, &mut [], &mut Notes::new());
+fn room(random: &mut Random, asked: Asked, kinds: &mut Vec<Kind>) -> usize {
+    let without_room = emboss(asked, &mut [], &mut Notes::new());
     let needed = match without_room.number {
         0 => 0,
         8 => without_room.place as usize,
@@ -754,7 +810,8 @@ mod tests {
     fn sound_tables_are_accepted() {
         for seed in 0..2000 {
             let table = sound_table(&mut Random::new(seed));
-            let answer = emboss(&table.image(), b"", 8, 2, &mut [], &mut Notes::new());
+            let asked = Asked { image: &table.image(), text: b"", following: b' ', w: 8, p: 2 };
+            let answer = emboss(asked, &mut [], &mut Notes::new());
             assert_eq!((answer.number, answer.place), (0, 0), "seed {seed}");
         }
     }

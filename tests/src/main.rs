@@ -20,7 +20,7 @@ use reference::{emboss, emboss_planted, Answer, Planted};
 use std::io::{Read, Write};
 use std::process::{exit, Command, Stdio};
 
-const USAGE: &str = "compare --seed S --cases N --program WORD [--program WORD ...] [--planted 1..8] [--batch N] [--all-counts]
+const USAGE: &str = "compare --seed S --cases N --program WORD [--program WORD ...] [--planted 1..11] [--batch N] [--all-counts]
 compare case SEED
 compare table FILE IMAGE
 compare vectors FOLDER --program WORD [--program WORD ...]
@@ -82,6 +82,9 @@ impl Settings {
                         "6" => Planted::ShiftAtLength,
                         "7" => Planted::SignAtThe99,
                         "8" => Planted::NumbersExchanged,
+                        "9" => Planted::BlankWhateverFollows,
+                        "10" => Planted::FollowingInside,
+                        "11" => Planted::FollowingBeforeText,
                         _ => return Err(USAGE.to_string()),
                     }
                 }
@@ -115,6 +118,7 @@ fn write_case(case: &Case, bytes: &mut Vec<u8>) {
     bytes.extend((case.text.len() as u32).to_le_bytes());
     bytes.extend(case.w.to_le_bytes());
     bytes.extend(case.p.to_le_bytes());
+    bytes.extend((case.following as u64).to_le_bytes());
     bytes.extend((case.room as u32).to_le_bytes());
     bytes.extend(&case.image);
     bytes.extend(&case.text);
@@ -147,9 +151,9 @@ fn take_u64(bytes: &mut &[u8]) -> Option<u64> {
 
 fn read_case(bytes: &mut &[u8]) -> Option<Case> {
     let (image, text) = (take_u32(bytes)?, take_u32(bytes)?);
-    let (w, p, room) = (take_u64(bytes)?, take_u64(bytes)?, take_u32(bytes)?);
+    let (w, p, following, room) = (take_u64(bytes)?, take_u64(bytes)?, take_u64(bytes)? as u8, take_u32(bytes)?);
     let (image, text) = (take(bytes, image)?.to_vec(), take(bytes, text)?.to_vec());
-    Some(Case { seed: 0, kinds: vec![], image, text, w, p, room })
+    Some(Case { seed: 0, kinds: vec![], image, text, following, w, p, room })
 }
 
 fn read_answer(bytes: &mut &[u8], room: usize) -> Option<(Answer, Vec<u8>)> {
@@ -172,7 +176,7 @@ fn serve() -> Result<(), String> {
     let mut output = vec![];
     while let Some(case) = read_case(&mut rest) {
         let mut buffer = lent_buffer(case.room);
-        let answer = emboss(&case.image, &case.text, case.w, case.p, &mut buffer, &mut Notes::new());
+        let answer = emboss(case.asked(), &mut buffer, &mut Notes::new());
         write_answer(&answer, &mut output);
         output.extend(buffer);
     }
@@ -245,7 +249,7 @@ pub fn run_program<T>(
 // The random comparison
 
 /// The numbers of an answer, in the order in which they are met.
-const NUMBERS: [u8; 13] = [0, 1, 2, 11, 12, 13, 14, 3, 4, 5, 6, 7, 8];
+const NUMBERS: [u8; 14] = [0, 1, 2, 11, 12, 13, 14, 3, 4, 5, 6, 7, 15, 8];
 
 struct Counts {
     cases: u64,
@@ -288,7 +292,7 @@ fn compare(settings: &Settings) -> Result<(), String> {
                     counts.with_cells += 1;
                 }
             } else {
-                notes.add_wrong_table(own_notes);
+                notes.add_refused(own_notes);
             }
         }
     }
@@ -306,7 +310,7 @@ fn expect(planted: Planted, cases: &[Case]) -> Vec<(Outcome, Notes)> {
         .map(|case| {
             let mut notes = Notes::new();
             let mut buffer = lent_buffer(case.room);
-            let answer = emboss_planted(planted, &case.image, &case.text, case.w, case.p, &mut buffer, &mut notes);
+            let answer = emboss_planted(planted, case.asked(), &mut buffer, &mut notes);
             ((answer, buffer), notes)
         })
         .collect()
@@ -355,10 +359,11 @@ fn report(settings: &Settings, counts: &Counts, notes: &Notes) -> Result<(), Str
 fn show(seed: &str) -> Result<(), String> {
     let case = case(number(seed)?);
     let mut buffer = lent_buffer(case.room);
-    let answer = emboss(&case.image, &case.text, case.w, case.p, &mut buffer, &mut Notes::new());
+    let answer = emboss(case.asked(), &mut buffer, &mut Notes::new());
     println!("W {} P {} room {}", case.w, case.p, case.room);
     println!("image, {} bytes: {:?}", case.image.len(), case.image);
     println!("text, {} bytes: {:?}", case.text.len(), String::from_utf8_lossy(&case.text));
+    println!("following {} {:?}", case.following, case.following as char);
     println!("{answer:?}");
     println!("{:?}", &buffer[..answer.written as usize]);
     Ok(())

@@ -1,8 +1,8 @@
-//! The paper's own examples and corners, by its table of 218 bytes, asked of the reference; what a request of
-//! document 02 changes, by the same table.
+//! The paper's own examples and corners, by its table of 218 bytes, asked of the reference with a blank following;
+//! what a request of document 02 changes, by the same table.
 
 use crate::counts::Notes;
-use crate::reference::{emboss, emboss_planted, Answer, Planted};
+use crate::reference::{emboss, emboss_planted, Answer, Asked, Planted};
 use crate::table;
 
 fn image() -> Vec<u8> {
@@ -10,8 +10,12 @@ fn image() -> Vec<u8> {
 }
 
 fn ask(text: &[u8], w: u64, p: u64, room: usize) -> (Answer, Vec<u8>) {
+    ask_followed(text, b' ', w, p, room)
+}
+
+fn ask_followed(text: &[u8], following: u8, w: u64, p: u64, room: usize) -> (Answer, Vec<u8>) {
     let mut out = vec![200; room];
-    let answer = emboss(&image(), text, w, p, &mut out, &mut Notes::new());
+    let answer = emboss(Asked { image: &image(), text, following, w, p }, &mut out, &mut Notes::new());
     assert!(out[answer.written as usize..].iter().all(|byte| *byte == 200), "beyond the written bytes as it was");
     out.truncate(answer.written as usize);
     (answer, out)
@@ -71,7 +75,7 @@ fn corners() {
 }
 
 fn check(image: &[u8]) -> (u8, u64) {
-    let answer = emboss(image, b"", 8, 2, &mut [], &mut Notes::new());
+    let answer = emboss(Asked { image, text: b"", following: b' ', w: 8, p: 2 }, &mut [], &mut Notes::new());
     (answer.number, answer.place)
 }
 
@@ -198,7 +202,8 @@ fn errors_an_implementer_will_be_drawn_to() {
         let image = table::read(table).unwrap().image();
         let ask = |planted| {
             let mut out = [0; 100];
-            let answer = emboss_planted(planted, &image, text.as_bytes(), 8, 2, &mut out, &mut Notes::new());
+            let asked = Asked { image: &image, text: text.as_bytes(), following: b' ', w: 8, p: 2 };
+            let answer = emboss_planted(planted, asked, &mut out, &mut Notes::new());
             assert_eq!(answer.number, 0);
             out[..answer.written as usize].to_vec()
         };
@@ -222,7 +227,8 @@ fn errors_an_implementer_will_be_drawn_to() {
 fn errors_of_which_byte() {
     let shows = |planted: Planted, bytes: &[(usize, u8)], right: (u8, u64), error: (u8, u64)| {
         let ask = |planted| {
-            let answer = emboss_planted(planted, &damaged(bytes), b"", 8, 2, &mut [], &mut Notes::new());
+            let asked = Asked { image: &damaged(bytes), text: b"", following: b' ', w: 8, p: 2 };
+            let answer = emboss_planted(planted, asked, &mut [], &mut Notes::new());
             (answer.number, answer.place)
         };
         assert_eq!(ask(Planted::Nothing), right, "{bytes:?}");
@@ -237,4 +243,89 @@ fn errors_of_which_byte() {
     shows(Planted::SignAtThe99, &[(73, 7)], (11, 73), (11, 72));
     shows(Planted::NumbersExchanged, &[(183, 6)], (12, 183), (13, 183));
     shows(Planted::NumbersExchanged, &[(187, b'G')], (13, 187), (12, 187));
+}
+
+/// Request 3 of document 02: BLIND by what follows it.
+#[test]
+fn what_follows_decides() {
+    let done = |following: u8, output: &[u8], pieces: u64| {
+        let (answer, wrote) = ask_followed(b"BLIND", following, 8, 2, 100);
+        let written = output.len() as u64;
+        assert_eq!(wrote, output, "{}", following as char);
+        let right = Answer { number: 0, place: 0, written, pieces, lines: 1, pages: 1 };
+        assert_eq!(answer, right, "{}", following as char);
+    };
+    done(b' ', &[3, 7, 64, 65], 1);
+    done(b'.', &[3, 7, 64, 65], 1);
+    done(b'E', &[3, 7, 10, 29, 25, 64, 65], 5);
+    assert_eq!(ask_followed(b"BLIND", b'a', 8, 2, 100).0, refused(15, 0));
+    // Only its class counts: that of the hyphen is the period's, that of $ the blank's.
+    for (following, pieces) in [(b'-', 1), (b'$', 1), (b'A', 5), (b'U', 5)] {
+        assert_eq!(ask_followed(b"BLIND", following, 8, 2, 100).0.pieces, pieces, "{}", following as char);
+    }
+    // It follows the text, so where a blank ends the text the character after BLIND is that blank; a bar is dropped.
+    for (text, pieces) in [("BLIND ", 2), ("BLIND\n", 2), ("BLIND.", 2), ("BLIND|", 5), ("BLIND BLIND", 7)] {
+        assert_eq!(ask_followed(text.as_bytes(), b'E', 8, 2, 100).0.pieces, pieces, "{text}");
+    }
+}
+
+/// It is never consumed: where no right context is asked at the end, each symbol of the alphabet gives the same. No
+/// section's states pass to the next: FUL is contracted after a letter of its own section alone.
+#[test]
+fn what_follows_is_only_looked_at() {
+    for following in *b" .-$ABCDEFILMNOPRSU" {
+        assert_eq!(ask_followed(b"COM", following, 8, 2, 100), ask(b"COM", 8, 2, 100));
+        assert_eq!(ask_followed(b"BLINDED", following, 8, 2, 100), ask(b"BLINDED", 8, 2, 100));
+        assert_eq!(ask_followed(b"", following, 8, 2, 100), ask(b"", 8, 2, 100));
+        assert_eq!(ask_followed(b"A", following, 8, 2, 100).1, [1, 64, 65]);
+        assert_eq!(ask_followed(b"FUL", following, 8, 2, 100).1, [11, 37, 7, 64, 65]);
+    }
+}
+
+#[test]
+fn what_follows_is_refused() {
+    // As it is: a line feed isn't taken for a blank, and a bar isn't dropped.
+    for following in [b'\n', b'|', b'a', b'Z', 0, 31, 127, 255] {
+        assert_eq!(ask_followed(b"BLIND", following, 8, 2, 100).0, refused(15, 0), "{following}");
+        // Whether or not a right context is asked.
+        assert_eq!(ask_followed(b"A", following, 8, 2, 100).0, refused(15, 0), "{following}");
+        assert_eq!(ask_followed(b"", following, 8, 2, 0).0, refused(15, 0), "{following}");
+        // After 5, 6 and 7, and before 8.
+        assert_eq!(ask_followed(b"COME", following, 7, 2, 100).0, refused(5, 0), "{following}");
+        assert_eq!(ask_followed(&[b'A'; 16_385], following, 8, 2, 100).0, refused(6, 16_384), "{following}");
+        assert_eq!(ask_followed(b"A|a", following, 8, 2, 100).0, refused(7, 2), "{following}");
+        assert_eq!(ask_followed(b"COME", following, 8, 2, 3).0, refused(15, 0), "{following}");
+    }
+    assert_eq!(ask_followed(b"BLIND", b'E', 8, 2, 6).0, refused(8, 7));
+    assert_eq!(ask_followed(b"BLIND", b'.', 8, 2, 3).0, refused(8, 4));
+    // After the table's own refusals; without a right context in the whole table too.
+    let unasked = include_str!("../vectors/paper.table").replace("entry BLIND 4 1 =", "entry BLIND 4 - =");
+    let unasked = table::read(&unasked).unwrap().image();
+    for (image, answer) in [(damaged(&[(203, b'F')]), refused(14, 203)), (unasked, refused(15, 0))] {
+        let asked = Asked { image: &image, text: b"BLIND", following: b'a', w: 8, p: 2 };
+        assert_eq!(emboss(asked, &mut [0; 100], &mut Notes::new()), answer);
+    }
+}
+
+/// The errors that request 3 of document 02 invites, each by a text and what follows it: what is right, and what the
+/// error answers, by number and output.
+#[test]
+fn errors_of_what_follows() {
+    let shows = |planted: Planted, text: &str, following: u8, right: (u8, &[u8]), error: (u8, &[u8])| {
+        let ask = |planted| {
+            let mut out = [0; 100];
+            let asked = Asked { image: &image(), text: text.as_bytes(), following, w: 8, p: 2 };
+            let answer = emboss_planted(planted, asked, &mut out, &mut Notes::new());
+            (answer.number, out[..answer.written as usize].to_vec())
+        };
+        assert_eq!(ask(Planted::Nothing), (right.0, right.1.to_vec()), "{text}");
+        assert_eq!(ask(planted), (error.0, error.1.to_vec()), "{text}");
+    };
+    let (contracted, spelled) = ([3, 7, 64, 65], [3, 7, 10, 29, 25, 64, 65]);
+    shows(Planted::BlankWhateverFollows, "BLIND", b'E', (0, &spelled), (0, &contracted));
+    // The character after BLIND is E in the one and a blank in the other, whatever follows the text.
+    let then_ed = [3, 7, 17, 25, 64, 65];
+    shows(Planted::FollowingInside, "BLINDED", b' ', (0, &[3, 7, 10, 29, 25, 17, 25, 64, 65]), (0, &then_ed));
+    shows(Planted::FollowingInside, "BLIND ", b'E', (0, &contracted), (0, &spelled));
+    shows(Planted::FollowingBeforeText, "a", b'a', (7, &[]), (15, &[]));
 }

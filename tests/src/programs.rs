@@ -1,8 +1,8 @@
 //! What the program `brailleout` prints, from the paragraph of document 01 that begins with its
-//! name.
+//! name. It is an old caller in the words of document 02: it passes a blank as the following symbol.
 
 use crate::counts::Notes;
-use crate::reference::emboss;
+use crate::reference::{emboss, Asked};
 use std::fmt::Write as _;
 use std::io::{Read, Write as _};
 
@@ -24,10 +24,10 @@ pub fn brailleout(table: &str) -> Result<(), String> {
     std::io::stdout().write_all(printed(&image, &text).as_bytes()).map_err(|why| why.to_string())
 }
 
-/// The answer, then the pages: with W 8, P 2 and 65,536 bytes of output.
+/// The answer, then the pages: with a blank following, W 8, P 2 and 65,536 bytes of output.
 fn printed(image: &[u8], text: &[u8]) -> String {
     let mut out = vec![0; 65_536];
-    let answer = emboss(image, text, 8, 2, &mut out, &mut Notes::new());
+    let answer = emboss(Asked { image, text, following: b' ', w: 8, p: 2 }, &mut out, &mut Notes::new());
     let mut printed =
         format!("{} {} {} {} {}\n", answer.number, answer.place, answer.pieces, answer.lines, answer.pages);
     // A refusal prints the first line alone: it has written nothing.

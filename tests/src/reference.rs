@@ -18,6 +18,17 @@ pub struct Answer {
     pub pages: u64,
 }
 
+/// What a call is asked: by which table image, which text, what follows it, and the sizes of lines and pages.
+#[derive(Clone, Copy)]
+pub struct Asked<'a> {
+    pub image: &'a [u8],
+    pub text: &'a [u8],
+    /// Request 3: the following symbol, which the caller takes from the next section.
+    pub following: u8,
+    pub w: u64,
+    pub p: u64,
+}
+
 /// The error that is planted, if any.
 #[derive(Clone, Copy, Debug, PartialEq, Eq)]
 pub enum Planted {
@@ -38,6 +49,12 @@ pub enum Planted {
     SignAtThe99,
     /// Request 1: 12 and 13 exchanged.
     NumbersExchanged,
+    /// Request 3: the blank's class whatever follows.
+    BlankWhateverFollows,
+    /// Request 3: the following symbol's class looked at inside the text.
+    FollowingInside,
+    /// Request 3: 15 before 7.
+    FollowingBeforeText,
 }
 
 /// A refusal: its number and its place.
@@ -55,21 +72,13 @@ const LONGEST_TEXT: usize = 16_384;
 
 /// The whole call: reads the table, collapses and translates the text, lays it out with lines of `w` cells
 /// and pages of `p` lines, and writes the bytes to the front of `out`.
-pub fn emboss(image: &[u8], text: &[u8], w: u64, p: u64, out: &mut [u8], notes: &mut Notes) -> Answer {
-    emboss_planted(Planted::Nothing, image, text, w, p, out, notes)
+pub fn emboss(asked: Asked, out: &mut [u8], notes: &mut Notes) -> Answer {
+    emboss_planted(Planted::Nothing, asked, out, notes)
 }
 
 /// The same with an error planted.
-pub fn emboss_planted(
-    planted: Planted,
-    image: &[u8],
-    text: &[u8],
-    w: u64,
-    p: u64,
-    out: &mut [u8],
-    notes: &mut Notes,
-) -> Answer {
-    match press(planted, image, text, w, p, out.len(), notes) {
+pub fn emboss_planted(planted: Planted, asked: Asked, out: &mut [u8], notes: &mut Notes) -> Answer {
+    match press(planted, asked, out.len(), notes) {
         // When refused, all but number and place are 0 and the output is as it was.
         Err((number, place)) => Answer { number, place, ..Answer::default() },
         // When done, place is 0 and output beyond the written bytes is as it was.
@@ -81,16 +90,9 @@ pub fn emboss_planted(
     }
 }
 
-/// The refusals, checked in the paper's order; with none, the bytes to write and the number of pieces.
-fn press(
-    planted: Planted,
-    image: &[u8],
-    text: &[u8],
-    w: u64,
-    p: u64,
-    room: usize,
-    notes: &mut Notes,
-) -> Result<(Vec<u8>, u64), Refusal> {
+/// The refusals, checked in the papers' order; with none, the bytes to write and the number of pieces.
+fn press(planted: Planted, asked: Asked, room: usize, notes: &mut Notes) -> Result<(Vec<u8>, u64), Refusal> {
+    let Asked { image, text, following, w, p } = asked;
     // 1, 2, 11 to 14, 3, 4
     let table = open(planted, image, notes)?;
     // 5: W or P outside its limits
@@ -101,18 +103,40 @@ fn press(
     if text.len() > LONGEST_TEXT {
         return Err((6, LONGEST_TEXT as u64));
     }
+    // 15, checked below: following symbol not in the alphabet, place 0. Collapsing is for the text alone, so a
+    // line feed is no blank here and a bar isn't dropped: neither is in any alphabet.
+    let not_in_the_alphabet = table.letter(following).is_none();
+    if not_in_the_alphabet && planted == Planted::FollowingBeforeText {
+        return Err((15, 0));
+    }
     // 7: character without alphabet record, at the first one in the text as lent. Bars are dropped, and line
     // feeds become blanks, which have a record.
     for (offset, &byte) in text.iter().enumerate() {
         if byte != BAR && byte != LINE_FEED && table.letter(byte).is_none() {
+            if not_in_the_alphabet {
+                notes.note(Event::UnknownAndFollowing);
+            }
             return Err((7, offset as u64));
         }
+    }
+    // 15, after 7 and before 8. No paper says what room a refused call would need; for the count a blank follows.
+    if not_in_the_alphabet {
+        let by_a_blank = press(planted, Asked { following: BLANK, ..asked }, room, &mut Notes::new());
+        let events = [
+            (Event::FollowingAndRoom, matches!(by_a_blank, Err((8, _)))),
+            (Event::FollowingUnasked, table.entries.iter().all(|entry| entry.context == 0)),
+            (Event::FollowingNothing, text.is_empty()),
+        ];
+        for (event, _) in events.iter().filter(|(_, met)| *met) {
+            notes.note(*event);
+        }
+        return Err((15, 0));
     }
     if text.len() == LONGEST_TEXT {
         notes.note(Event::FullText);
     }
     let collapsed = collapse(text, notes);
-    let (signs, pieces) = table.translate(planted, &collapsed, notes);
+    let (signs, pieces) = table.translate(planted, &collapsed, following, notes);
     let bytes = lay_out(planted, &signs, w as usize, p as usize, notes);
     // 8: output too short, at the bytes needed
     if bytes.len() > room {
@@ -461,16 +485,17 @@ impl Table {
         self.letter(symbol).expect("every remaining character has an alphabet record")
     }
 
-    /// The signs of all pieces in order, and the number of pieces.
-    fn translate(&self, planted: Planted, collapsed: &[u8], notes: &mut Notes) -> (Vec<u8>, u64) {
-        // All state variables start at no.
+    /// The signs of all pieces in order, and the number of pieces. The following symbol is only looked at, never
+    /// consumed: it is no part of the rest.
+    fn translate(&self, planted: Planted, collapsed: &[u8], following: u8, notes: &mut Notes) -> (Vec<u8>, u64) {
+        // All state variables start at no, and no section's states pass to the next.
         let mut states = vec![false; self.transitions.len()];
         let mut signs = vec![];
         let mut pieces = 0;
         // At each place the search is given the rest of the text from that place on.
         let mut rest = collapsed;
         while !rest.is_empty() {
-            let (class, shift) = match self.choose(planted, rest, &states, notes) {
+            let (class, shift) = match self.choose(planted, rest, following, &states, notes) {
                 // The first admissible entry in table order gives a piece of shift characters and its signs.
                 Some(entry) => {
                     notes.note(Event::EntryPiece);
@@ -516,13 +541,20 @@ impl Table {
     }
 
     /// The first admissible entry in table order.
-    fn choose(&self, planted: Planted, rest: &[u8], states: &[bool], notes: &mut Notes) -> Option<&Entry> {
-        let first = self.entries.iter().find(|entry| self.admissible(planted, entry, rest, states, notes))?;
+    fn choose(
+        &self,
+        planted: Planted,
+        rest: &[u8],
+        following: u8,
+        states: &[bool],
+        notes: &mut Notes,
+    ) -> Option<&Entry> {
+        let first = self.entries.iter().find(|entry| self.admissible(planted, entry, rest, following, states, notes))?;
         let mut longest = first;
         let mut unnoted = Notes::new();
         for entry in &self.entries {
             let longer = entry.string.len() > longest.string.len();
-            if longer && self.admissible(planted, entry, rest, states, &mut unnoted) {
+            if longer && self.admissible(planted, entry, rest, following, states, &mut unnoted) {
                 longest = entry;
             }
         }
@@ -533,20 +565,38 @@ impl Table {
     }
 
     /// Whether an entry is admissible at the front of this rest.
-    fn admissible(&self, planted: Planted, entry: &Entry, rest: &[u8], states: &[bool], notes: &mut Notes) -> bool {
+    fn admissible(
+        &self,
+        planted: Planted,
+        entry: &Entry,
+        rest: &[u8],
+        following: u8,
+        states: &[bool],
+        notes: &mut Notes,
+    ) -> bool {
         // Its whole string begins that rest;
         if !rest.starts_with(&entry.string) {
             return false;
         }
         // its right context is 0 or holds the class of the character after the whole string (not after the
-        // shift; past the end of text, the blank's class);
+        // shift; past the end of text, that of the following symbol);
         if entry.context != 0 {
             let after = if planted == Planted::ContextAfterShift { entry.shift } else { entry.string.len() };
-            if after == rest.len() {
-                notes.note(Event::ContextAtEnd);
-            }
-            let character = rest.get(after).copied().unwrap_or(BLANK);
-            if !self.contexts[entry.context - 1].contains(&self.known(character).class) {
+            let holds = |character: u8| self.contexts[entry.context - 1].contains(&self.known(character).class);
+            let character = match rest.get(after) {
+                Some(_) if planted == Planted::FollowingInside => following,
+                Some(character) => *character,
+                None => {
+                    notes.note(Event::ContextAtEnd);
+                    match (holds(following), holds(BLANK)) {
+                        (true, false) => notes.note(Event::FollowingHeld),
+                        (false, true) => notes.note(Event::FollowingNotHeld),
+                        _ => (),
+                    }
+                    if planted == Planted::BlankWhateverFollows { BLANK } else { following }
+                }
+            };
+            if !holds(character) {
                 notes.note(Event::ContextRejects);
                 return false;
             }

@@ -1,5 +1,5 @@
 //! The outside vectors: texts with the cells that others printed for them, by a table made for those texts.
-//! Each goes to the program and to the reference, and both have to give the printed bytes.
+//! Each goes to the program and to the reference with a blank following, and both have to give the printed bytes.
 
 use crate::counts::Notes;
 use crate::generate::Case;
@@ -29,7 +29,7 @@ pub fn run(folder: &str, program: &[String]) -> Result<(), String> {
         for ((case, printed), outcome) in vectors.iter().zip(&answers) {
             let text = String::from_utf8_lossy(&case.text);
             let mut own = lent_buffer(case.room);
-            let own_answer = emboss(&case.image, &case.text, case.w, case.p, &mut own, &mut Notes::new());
+            let own_answer = emboss(case.asked(), &mut own, &mut Notes::new());
             let own_wrote = &own[..own_answer.written as usize];
             let wrong = |what: String| Err(format!("{name}: {text}: printed {printed:?}, {what}"));
             if own_answer.number != 0 || own_wrote != printed {
@@ -59,7 +59,9 @@ pub fn vectors(image: &[u8], words: &str) -> Result<Vec<(Case, Vec<u8>)>, String
             "page" => p = rest.parse().map_err(|_| wrong())?,
             "text" => {
                 let text = rest.bytes().map(|byte| if byte == b'_' { b' ' } else { byte }).collect();
-                vectors.push((Case { seed: 0, kinds: vec![], image: image.to_vec(), text, w, p, room: 1000 }, vec![]));
+                let image = image.to_vec();
+                let case = Case { seed: 0, kinds: vec![], image, text, following: b' ', w, p, room: 1000 };
+                vectors.push((case, vec![]));
             }
             "cells" => {
                 let (_, printed) = vectors.last_mut().ok_or_else(wrong)?;
@@ -87,7 +89,7 @@ mod tests {
             let image = table::read(table).unwrap().image();
             for (case, printed) in vectors(&image, words).unwrap() {
                 let mut out = vec![0; case.room];
-                let answer = emboss(&case.image, &case.text, case.w, case.p, &mut out, &mut Notes::new());
+                let answer = emboss(case.asked(), &mut out, &mut Notes::new());
                 assert_eq!(answer.number, 0);
                 assert_eq!(out[..answer.written as usize], printed, "{}", String::from_utf8_lossy(&case.text));
             }

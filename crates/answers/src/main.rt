@@ -6,6 +6,7 @@
 //             4 bytes  length of the text, at most 17,000
 //             8 bytes  W, any 64-bit number
 //             8 bytes  P, any 64-bit number
+//             8 bytes  the symbol that follows the text, of which the first byte counts
 //             4 bytes  output room, at most 163,840
 //             the image, then the text
 // Its answer: 1 byte   number
@@ -22,12 +23,14 @@ use layout::Answer;
 use libc::STDIN_FILENO;
 use libc::STDOUT_FILENO;
 use pages::Sheet;
+use translation::Setting;
 
 // The sizes of a case.
 struct Head {
     image: usize,
     text: usize,
     sheet: Sheet,
+    setting: Setting,
     room: usize,
 }
 
@@ -36,8 +39,8 @@ fn wide(b: u8) -> usize {
 }
 
 // The number in the four bytes from `at` on.
-fn four(head: &[u8; 28], at: usize) -> usize
-    requires { ⌜ at ≤ 24 ⌝ }
+fn four(head: &[u8; 36], at: usize) -> usize
+    requires { ⌜ at ≤ 32 ⌝ }
 {
     let low = wide(head[at]) | (wide(head[at + 1]) << 8);
     let high = wide(head[at + 2]) | (wide(head[at + 3]) << 8);
@@ -45,13 +48,13 @@ fn four(head: &[u8; 28], at: usize) -> usize
 }
 
 // The number in the eight bytes from `at` on.
-fn eight(head: &[u8; 28], at: usize) -> usize
-    requires { ⌜ at ≤ 20 ⌝ }
+fn eight(head: &[u8; 36], at: usize) -> usize
+    requires { ⌜ at ≤ 28 ⌝ }
 {
     four(head, at) | (four(head, at + 4) << 32)
 }
 
-fn read_head(head: &[u8; 28]) -> Head {
+fn read_head(head: &[u8; 36]) -> Head {
     Head {
         image: four(head, 0),
         text: four(head, 4),
@@ -59,7 +62,10 @@ fn read_head(head: &[u8; 28]) -> Head {
             width: eight(head, 8),
             length: eight(head, 16),
         },
-        room: four(head, 24),
+        setting: Setting {
+            following: head[24],
+        },
+        room: four(head, 32),
     }
 }
 
@@ -115,19 +121,19 @@ fn read_front(bytes: &mut [u8], n: usize) -> usize
 }
 
 // Answers one case into a buffer.
-fn answer_into(image: &[u8], text: &[u8], sheet: Sheet, out: &mut [u8]) -> bool {
+fn answer_into(setting: Setting, image: &[u8], text: &[u8], sheet: Sheet, out: &mut [u8]) -> bool {
     prepare(out);
-    let answer = layout::emboss(image, text, sheet, out);
+    let answer = layout::emboss(setting, image, text, sheet, out);
     write_answer(answer) & io::write_all(STDOUT_FILENO, out)
 }
 
 // Answers one case with so much room.
-fn answer(image: &[u8], text: &[u8], sheet: Sheet, room: usize) -> bool {
+fn answer(setting: Setting, image: &[u8], text: &[u8], sheet: Sheet, room: usize) -> bool {
     let mut out = [0u8; 163840];
     if out.len() < room {
         return false;
     }
-    answer_into(image, text, sheet, &mut out[..room])
+    answer_into(setting, image, text, sheet, &mut out[..room])
 }
 
 // Answers the case with this head, whose image and text follow.
@@ -139,13 +145,19 @@ fn answer_with(head: Head) -> bool {
     if (held != head.image) | (length != head.text) {
         return false;
     }
-    answer(&image[..held], &text[..length], head.sheet, head.room)
+    answer(
+        head.setting,
+        &image[..held],
+        &text[..length],
+        head.sheet,
+        head.room,
+    )
 }
 
 // Answers the next case, and says whether there was one.
 fn answer_next() -> bool {
-    let mut head = [0u8; 28];
-    if io::read_full(STDIN_FILENO, &mut head) != 28 {
+    let mut head = [0u8; 36];
+    if io::read_full(STDIN_FILENO, &mut head) != 36 {
         return false;
     }
     answer_with(read_head(&head))

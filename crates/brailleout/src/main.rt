@@ -1,8 +1,9 @@
-// Translates standard input by the table in the file `cases.tab` of the current folder, with W 8
-// and P 2, and prints the answer, the cells and the pages. Where a read fails it prints nothing,
-// and where a write fails nothing more; standard error then says what failed, and nothing else is
-// ever said there.
+// Translates standard input, with a blank following, by the table in the file `cases.tab` of the
+// current folder, with W 8 and P 2, and prints the answer, the cells and the pages. Where a read
+// fails it prints nothing, and where a write fails nothing more; standard error then says what
+// failed, and nothing else is ever said there.
 use pages::Sheet;
+use translation::Setting;
 
 // Translates a text by a table, and prints what comes back.
 fn translate(image: &[u8], text: &[u8]) {
@@ -11,7 +12,8 @@ fn translate(image: &[u8], text: &[u8]) {
         width: 8,
         length: 2,
     };
-    let answer = layout::emboss(image, text, sheet, &mut out);
+    let setting = Setting { following: 32 };
+    let answer = layout::emboss(setting, image, text, sheet, &mut out);
     if console::print_answer(answer) {
         console::print_pages(&out[..answer.written()]);
     }

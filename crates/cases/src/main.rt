@@ -1,9 +1,10 @@
-// The paper's run cases: what the whole call answers at its limits, for refusals 1 to 8 with their
-// places, and where two refusals hold at once. Each case prints its answer in the form of
-// `brailleout`. Some go on with the cells and pages; the others say whether the bytes lent are as
-// they were.
+// The paper's run cases: what the whole call answers at its limits, for refusals 1 to 8 and 15 with
+// their places, where two refusals hold at once, and by what follows the text. Each case prints its
+// answer in the form of `brailleout`. Some go on with the cells and pages; the others say whether
+// the bytes lent are as they were.
 use libc::STDOUT_FILENO;
 use pages::Sheet;
+use translation::Setting;
 
 fn sheet(width: usize, length: usize) -> Sheet {
     Sheet {
@@ -12,10 +13,14 @@ fn sheet(width: usize, length: usize) -> Sheet {
     }
 }
 
+fn follows(symbol: u8) -> Setting {
+    Setting { following: symbol }
+}
+
 // The answer, the cells and the pages.
-fn show(image: &[u8], text: &[u8], sheet: Sheet) {
+fn show(setting: Setting, image: &[u8], text: &[u8], sheet: Sheet) {
     let mut out = [170u8; 65536];
-    let answer = layout::emboss(image, text, sheet, &mut out);
+    let answer = layout::emboss(setting, image, text, sheet, &mut out);
     console::print_answer(answer);
     console::print_pages(&out[..answer.written()]);
 }
@@ -33,8 +38,8 @@ fn as_lent(bytes: &[u8]) -> bool {
 }
 
 // The answer, and whether the output is as lent.
-fn tell(image: &[u8], text: &[u8], sheet: Sheet, out: &mut [u8]) {
-    let answer = layout::emboss(image, text, sheet, out);
+fn tell(setting: Setting, image: &[u8], text: &[u8], sheet: Sheet, out: &mut [u8]) {
+    let answer = layout::emboss(setting, image, text, sheet, out);
     console::print_answer(answer);
     if as_lent(out) {
         io::write_all(STDOUT_FILENO, &[b'k', b'e', b'p', b't', b'\n']);
@@ -46,23 +51,29 @@ fn tell(image: &[u8], text: &[u8], sheet: Sheet, out: &mut [u8]) {
     }
 }
 
-// As `tell`, with 65,536 bytes lent.
+// As `tell`, with a blank following and 65,536 bytes lent.
 fn answered(image: &[u8], text: &[u8], sheet: Sheet) {
     let mut out = [170u8; 65536];
-    tell(image, text, sheet, &mut out);
+    tell(follows(b' '), image, text, sheet, &mut out);
 }
 
 // Words and paragraphs: nine A (lines of 8 and 1); `$P` with seven A (column 0); seven A and one
 // more (a word joined would be too long); the empty text.
 fn words(image: &[u8]) {
-    show(image, &[65; 9], sheet(8, 2));
+    show(follows(b' '), image, &[65; 9], sheet(8, 2));
     show(
+        follows(b' '),
         image,
         &[b'$', b'P', 65, 65, 65, 65, 65, 65, 65],
         sheet(8, 2),
     );
-    show(image, &[65, 65, 65, 65, 65, 65, 65, b' ', 65], sheet(8, 2));
-    show(image, &[], sheet(8, 2));
+    show(
+        follows(b' '),
+        image,
+        &[65, 65, 65, 65, 65, 65, 65, b' ', 65],
+        sheet(8, 2),
+    );
+    show(follows(b' '), image, &[], sheet(8, 2));
 }
 
 // W 7, 8, 60, 61, and P 1, 2, 40, 41.
@@ -87,9 +98,9 @@ fn long_texts(image: &[u8]) {
 fn text_and_room(image: &[u8]) {
     let come = [b'C', b'O', b'M', b'E'];
     answered(image, &[b'A', b'|', b'a'], sheet(8, 2));
-    tell(image, &come, sheet(8, 2), &mut [170; 3]);
-    tell(image, &come, sheet(8, 2), &mut [170; 0]);
-    tell(image, &come, sheet(8, 2), &mut [170; 4]);
+    tell(follows(b' '), image, &come, sheet(8, 2), &mut [170; 3]);
+    tell(follows(b' '), image, &come, sheet(8, 2), &mut [170; 0]);
+    tell(follows(b' '), image, &come, sheet(8, 2), &mut [170; 4]);
 }
 
 // A table of 13 bytes, and where two refusals hold at once: a damaged table with a bad width; a bad
@@ -99,8 +110,20 @@ fn orders(image: &[u8]) {
     answered(&[0; 13], &[65], sheet(8, 2));
     answered(&[0; 13], &[65], sheet(7, 2));
     answered(image, &[65; 16385], sheet(7, 2));
-    tell(image, &[b'a'], sheet(8, 2), &mut [170; 0]);
+    tell(follows(b' '), image, &[b'a'], sheet(8, 2), &mut [170; 0]);
     answered(image, &[b'a'; 16385], sheet(8, 2));
+}
+
+// What follows the text: BLIND before a blank, a period, E and `a`; 15 with an unknown character (7
+// is met first) and with no room (15 is).
+fn sections(image: &[u8]) {
+    let blind = [b'B', b'L', b'I', b'N', b'D'];
+    show(follows(b' '), image, &blind, sheet(8, 2));
+    show(follows(b'.'), image, &blind, sheet(8, 2));
+    show(follows(b'E'), image, &blind, sheet(8, 2));
+    show(follows(b'a'), image, &blind, sheet(8, 2));
+    tell(follows(b'a'), image, &[b'a'], sheet(8, 2), &mut [170; 4]);
+    tell(follows(b'a'), image, &blind, sheet(8, 2), &mut [170; 0]);
 }
 
 fn all(image: &[u8]) {
@@ -109,6 +132,7 @@ fn all(image: &[u8]) {
     long_texts(image);
     text_and_room(image);
     orders(image);
+    sections(image);
 }
 
 // A wrong byte: of a letter's class (2, at that byte), of the blank's symbol (3), of an entry's

@@ -3,4 +3,5 @@ pub mod Promises
 pub mod Relied
 pub mod WholeCall
 pub mod Demands
+pub mod Following
 pub mod Twelve

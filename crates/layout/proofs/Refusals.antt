@@ -15,25 +15,26 @@ use borrow.Author.Tests.{leb-true, leb-false}
 use Rattle.table.specs.Numbers.{numberDone, mostText}
 use Rattle.table.specs.Answers.{refusalNumber, refusalPlace}
 use Rattle.table.specs.FirstLine.{FirstLine}
-use Rattle.table.specs.Refusals.{tableLines, Line as TableLine}
+use Rattle.table.specs.Refusals.{tableLines, Line as TableLine, HasLetter}
+use Rattle.table.proofs.Tests.{Tells, fails-law}
 use Rattle.table.specs.Table.{tableOf}
 use Rattle.table.specs.Verdict.{verdictOf}
 use Rattle.table.specs.declared.Refusal.{Refusal}
-use Rattle.table.specs.declared.Refusal.the-variants.{Size, LongText, Unknown, Room}
+use Rattle.table.specs.declared.Refusal.the-variants.{Size, LongText, Unknown, Following, Room}
 use Rattle.table.specs.declared.Verdict.{Verdict}
 use Rattle.table.specs.declared.Verdict.the-variants.{Accepted, Refused as NotAccepted}
 use Rattle.table.proofs.FirstLine.{NoneBefore, none-before-next, OneLine}
 use Rattle.table.proofs.FirstLine as First
 use Rattle.table.proofs.Refusals as TableLaws
-use Rattle.translation.specs.Letters.{firstUnknown}
+use Rattle.translation.specs.Letters.{isKnown, firstUnknown}
 use Rattle.translation.specs.Pieces.{piecesOf}
-use Rattle.translation.specs.Refusals.{FirstUnknownAt}
+use Rattle.translation.specs.Refusals.{FirstUnknownAt, FollowingUnknown}
 use Rattle.translation.specs.Translate.{Result, made, refused as notMade, translateBy, translateOn}
 use Rattle.translation.specs.declared.Setting.{Setting}
-use Rattle.translation.proofs.Outcomes.{too-long, unknown-at, made-by, table-refused, also-refused, goes-on}
-use Rattle.translation.proofs.Refusals.{unknown-exactly-when, none-unknown-exactly-when}
-use Rattle.layout.specs.Emboss.{number, place, written, Outcome, refused, done, bytesOf, roomed, laid, termsOf, embossFollowed}
-use Rattle.layout.specs.Refusals.{Line, of-table, line-5, line-6, line-7, line-8}
+use Rattle.translation.proofs.Outcomes.{too-long, unknown-at, following-refused, made-by, table-refused, also-refused, goes-on}
+use Rattle.translation.proofs.Refusals.{unknown-exactly-when, none-unknown-exactly-when, known-exactly-when}
+use Rattle.layout.specs.Emboss.{number, place, written, Outcome, refused, done, bytesOf, roomed, laid, termsOf, embossing}
+use Rattle.layout.specs.Refusals.{Line, of-table, line-5, line-6, line-7, line-15, line-8}
 use Rattle.pages.specs.Volume.{sheetRight}
 use Rattle.pages.specs.Refusals.{SizesWrong}
 use Rattle.pages.proofs.Sizes.{sizes-wrong, sizes-accepted, sizes-refused, sizes-not-wrong}
@@ -43,7 +44,7 @@ use Rattle.pages.specs.declared.Sheet.{Sheet}
 
 module _ (setting : Setting) (image text : List ℕ) (sheet : Sheet) (out : List ℕ) where
   abbrev outcome : Outcome
-  outcome = embossFollowed setting image text sheet out
+  outcome = embossing setting image text sheet out
 
   abbrev Holds : ℕ → ℕ → ℕ → Type 0
   Holds t n p = Line setting image text sheet out t n p
@@ -65,6 +66,7 @@ module _ (setting : Setting) (image text : List ℕ) (sheet : Sheet) (out : List
   table-passed no-line t n p h (line-5 x) = omega arith
   table-passed no-line t n p h (line-6 x) = omega arith
   table-passed no-line t n p h (line-7 x) = omega arith
+  table-passed no-line t n p h (line-15 x) = omega arith
   table-passed no-line t n p h (line-8 x) = omega arith
 
   -- a line of the table isn't one of the others
@@ -92,14 +94,22 @@ module _ (setting : Setting) (image text : List ℕ) (sheet : Sheet) (out : List
       go n p (of-table x) = not-of-table (omega arith) x
       go n p (line-7 x) = known p x
 
-  room-passed : length bytes ≤ length out → NoneBefore Holds (tableLines + 4) → (t n p : ℕ) → Holds t n p → ⊥
+  following-passed : (FollowingUnknown (tableOf image .letters) (setting .following) → ⊥) → NoneBefore Holds (tableLines + 4) → NoneBefore Holds (tableLines + 5)
+  following-passed known before = none-before-next Holds (tableLines + 4) before go
+    where
+      go : (n p : ℕ) → Holds (tableLines + 4) n p → ⊥
+      go n p (of-table x) = not-of-table (omega arith) x
+      go n p (line-15 x) = known x
+
+  room-passed : length bytes ≤ length out → NoneBefore Holds (tableLines + 5) → (t n p : ℕ) → Holds t n p → ⊥
   room-passed room before t n p (of-table x) = before t n p (let w = TableLaws.within-table image x in omega arith) (of-table x)
   room-passed room before t n p (line-5 x) = before _ _ _ (omega arith) (line-5 x)
   room-passed room before t n p (line-6 x) = before _ _ _ (omega arith) (line-6 x)
   room-passed room before t n p (line-7 x) = before _ _ _ (omega arith) (line-7 x)
+  room-passed room before t n p (line-15 x) = before _ _ _ (omega arith) (line-15 x)
   room-passed room before t n p (line-8 x) = omega arith
 
-  told-room : NoneBefore Holds (tableLines + 4) → Told (laid sheet out (made (piecesOf (tableOf image) setting text)))
+  told-room : NoneBefore Holds (tableLines + 5) → Told (laid sheet out (made (piecesOf (tableOf image) setting text)))
   unfolding laid roomed
   told-room before = go (leb (length bytes) (length out)) refl
     where
@@ -107,7 +117,7 @@ module _ (setting : Setting) (image text : List ℕ) (sheet : Sheet) (out : List
       go true e = told-done (rw (e, laid, roomed)) (room-passed (leb-true _ _ e) before)
       go false e =
           told-refused (Room (length bytes)) (omega arith) (rw (e, laid, roomed))
-          (record { turn = tableLines + 4; line = line-8 (leb-false _ _ e); none-before = before })
+          (record { turn = tableLines + 5; line = line-8 (leb-false _ _ e); none-before = before })
 
   -- a result that is refused
   told-not-made : {result : Result} (r : Refusal) → 0 < refusalNumber r → result ≡ notMade r → FirstLine Holds (refusalNumber r) (refusalPlace r)
@@ -118,12 +128,23 @@ module _ (setting : Setting) (image text : List ℕ) (sheet : Sheet) (out : List
   told-text : NoneBefore Holds (tableLines + 2) → Told (laid sheet out (translateBy (tableOf image) setting text))
   told-text before = long (leb (length text) mostText) refl
     where
+      knows : Tells (isKnown (tableOf image .letters) (setting .following)) (HasLetter (tableOf image .letters) (setting .following))
+      knows = known-exactly-when (tableOf image .letters) (setting .following)
+
+      following : length text ≤ mostText → firstUnknown (tableOf image .letters) text ≡ none → NoneBefore Holds (tableLines + 4) → (k : Bool)
+          → isKnown (tableOf image .letters) (setting .following) ≡ k → Told (laid sheet out (translateBy (tableOf image) setting text))
+      following short f b true e =
+          subst (λ (r : Result). Told (laid sheet out r)) (sym (made-by (tableOf image) setting text short f e))
+          (told-room (following-passed (λ x. x (knows .0 e)) b))
+      following short f b false e =
+          told-not-made Following (omega arith) (following-refused (tableOf image) setting text short f e)
+          (record { turn = tableLines + 4; line = line-15 (fails-law knows .0 e); none-before = b })
+
       unknown : length text ≤ mostText → NoneBefore Holds (tableLines + 3) → (o : Option ℕ) → firstUnknown (tableOf image .letters) text ≡ o
           → Told (laid sheet out (translateBy (tableOf image) setting text))
       unknown short b none f =
           let n = none-unknown-exactly-when (tableOf image .letters) text .0 f in
-          subst (λ (r : Result). Told (laid sheet out r)) (sym (made-by (tableOf image) setting text short f))
-          (told-room (letters-passed (λ at x. n at (x .unknown)) b))
+          following short f (letters-passed (λ at x. n at (x .unknown)) b) (isKnown (tableOf image .letters) (setting .following)) refl
       unknown short b (some at) f =
           told-not-made (Unknown at) (omega arith) (unknown-at (tableOf image) setting text at short f)
           (record { turn = tableLines + 3; line = line-7 (unknown-exactly-when (tableOf image .letters) text at .0 f); none-before = b })
@@ -159,10 +180,11 @@ module _ (setting : Setting) (image text : List ℕ) (sheet : Sheet) (out : List
       before t n p h (line-5 x) = let w = TableLaws.within-table image (f .line) in omega arith
       before t n p h (line-6 x) = let w = TableLaws.within-table image (f .line) in omega arith
       before t n p h (line-7 x) = let w = TableLaws.within-table image (f .line) in omega arith
+      before t n p h (line-15 x) = let w = TableLaws.within-table image (f .line) in omega arith
       before t n p h (line-8 x) = let w = TableLaws.within-table image (f .line) in omega arith
 
   told : Told outcome
-  unfolding embossFollowed
+  unfolding embossing
   told = go (verdictOf image) refl (TableLaws.verdict-told image)
     where
       go : (v : Verdict) → verdictOf image ≡ v → TableLaws.VerdictTold image v → Told (laid sheet out (translateOn (termsOf setting sheet) image text))
@@ -177,10 +199,12 @@ module _ (setting : Setting) (image text : List ℕ) (sheet : Sheet) (out : List
   one-line t m p n q before (of-table x) (line-5 y) = absurd (not-of-table (omega arith) x)
   one-line t m p n q before (of-table x) (line-6 y) = absurd (not-of-table (omega arith) x)
   one-line t m p n q before (of-table x) (line-7 y) = absurd (not-of-table (omega arith) x)
+  one-line t m p n q before (of-table x) (line-15 y) = absurd (not-of-table (omega arith) x)
   one-line t m p n q before (of-table x) (line-8 y) = absurd (not-of-table (omega arith) x)
   one-line t m p n q before (line-5 x) (of-table y) = absurd (not-of-table (omega arith) y)
   one-line t m p n q before (line-6 x) (of-table y) = absurd (not-of-table (omega arith) y)
   one-line t m p n q before (line-7 x) (of-table y) = absurd (not-of-table (omega arith) y)
+  one-line t m p n q before (line-15 x) (of-table y) = absurd (not-of-table (omega arith) y)
   one-line t m p n q before (line-8 x) (of-table y) = absurd (not-of-table (omega arith) y)
   one-line t m p n q before (line-5 x) (line-5 y) = (refl, refl)
   one-line t m p n q before (line-6 x) (line-6 y) = (refl, refl)
@@ -188,6 +212,7 @@ module _ (setting : Setting) (image text : List ℕ) (sheet : Sheet) (out : List
       let v = unknown-exactly-when (tableOf image .letters) text p .1 x in
       let w = unknown-exactly-when (tableOf image .letters) text q .1 y in
       (refl, cc)
+  one-line t m p n q before (line-15 x) (line-15 y) = (refl, refl)
   one-line t m p n q before (line-8 x) (line-8 y) = (refl, refl)
 
   -- ---- Exactly when

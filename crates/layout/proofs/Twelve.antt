@@ -9,7 +9,8 @@ use native.Mathlib.Omega.{arith}
 use lib.ListN.{length, replicate}
 use Rattle.table.specs.Example.{image, table, ascii}
 use Rattle.translation.specs.Pieces.{piecesOf, signsOf}
-use Rattle.translation.specs.Translate.{blankFollows}
+use Rattle.table.specs.Numbers.{blank}
+use Rattle.translation.specs.declared.Setting.{Setting}
 use Rattle.pages.specs.Words.{Item, word, lineEnd, emptyLine, itemsOf}
 use Rattle.pages.specs.Permitted.{Layout, Permitted}
 use Rattle.pages.specs.Spots.{layoutOf, withChoices}
@@ -37,6 +38,13 @@ Shown = ℕ × ℕ × ℕ × ℕ × ℕ × ℕ × List ℕ
 shown : Outcome → Shown
 shown c = let a = c .answer in (number a, place a, written a, pieces a, lines a, pages a, c .output)
 
+-- what follows the text
+follows : ℕ → Setting
+follows c = record { following = c }
+
+abbrev blankFollows : Setting
+blankFollows = record { following = blank }
+
 -- W 8 and P 2
 abbrev small : Sheet
 small = record { width = 8; length = 2 }
@@ -49,7 +57,7 @@ lent : ℕ → List ℕ
 lent n = replicate n 200
 
 embossed : Row → Shown
-embossed r = shown (embossing image (ascii (r .text)) small (lent room))
+embossed r = shown (embossing blankFollows image (ascii (r .text)) small (lent room))
 
 expected : Row → Shown
 expected r = (0, 0, length (r .output), r .pieces, r .lines, r .pages, r .output ++ lent (room - length (r .output)))
@@ -96,6 +104,41 @@ corners =
 corners-embossed : map embossed corners ≡ map expected corners
 unfolding computing row shown lent embossed expected corners
 corners-embossed = refl
+
+-- ---- Sections: BLIND followed by a blank, by `.`, by E, by `a`: contracted, contracted, the five letters, and refused with 15
+
+blind : ℕ → Shown
+blind c = shown (embossing (follows c) image (ascii "BLIND") small (lent room))
+
+short : List ℕ
+short = 3 ∷ 7 ∷ 64 ∷ 65 ∷ []
+
+long : List ℕ
+long = 3 ∷ 7 ∷ 10 ∷ 29 ∷ 25 ∷ 64 ∷ 65 ∷ []
+
+blind-followed :
+    map blind (ascii " .Ea")
+    ≡ (0, 0, 4, 1, 1, 1, short ++ lent 20)
+    ∷ (0, 0, 4, 1, 1, 1, short ++ lent 20)
+    ∷ (0, 0, 7, 5, 1, 1, long ++ lent 17)
+    ∷ (15, 0, 0, 0, 0, 0, lent 24)
+    ∷ []
+unfolding computing shown lent follows blind short long
+blind-followed = refl
+
+-- 7 is met before 15, and 15 before 8; a line feed and a bar are in no alphabet
+following-refused-in-order :
+    map (λ (o : Outcome). number (o .answer))
+    (embossing (follows 97) image (ascii "a") small (lent room)
+    ∷ embossing (follows 97) image (ascii "A") small []
+    ∷ embossing (follows 32) image (ascii "A") small []
+    ∷ embossing (follows 10) image (ascii "A") small (lent room)
+    ∷ embossing (follows 124) image (ascii "A") small (lent room)
+    ∷ embossing (follows 97) image (ascii "") small (lent room)
+    ∷ [])
+    ≡ 7 ∷ 15 ∷ 8 ∷ 15 ∷ 15 ∷ 15 ∷ []
+unfolding computing shown lent follows
+following-refused-in-order = refl
 
 -- ---- A permitted layout that isn't ours: `AAAA AAA` at W 8 on two lines
 

@@ -12,9 +12,10 @@ use Rattle.table.specs.declared.Verdict.{Verdict}
 use Rattle.table.proofs.Sound.{accepted-sound}
 use Rattle.translation.specs.Collapse.{collapsed}
 use Rattle.translation.specs.Pieces.{Piece, piecesOf, signsOf}
-use Rattle.translation.specs.Translate.{blankFollows, Result, made, refused as notMade, translateOn}
+use Rattle.translation.specs.Translate.{Result, made, refused as notMade, translateOn}
 use Rattle.translation.specs.Handed.{handed, translation}
 use Rattle.translation.specs.Promises.{Translated}
+use Rattle.translation.specs.declared.Setting.{Setting}
 use Rattle.translation.specs.declared.Translation.{Translation}
 use Rattle.translation.specs.declared.Translation.the-variants as t
 use Rattle.translation.proofs.Outcomes.{Made, made-means}
@@ -30,28 +31,28 @@ use Rattle.pages.specs.declared.Sheet.{Sheet}
 use Rattle.pages.proofs.Counts.{lines-are-64s, pages-are-65s}
 use Rattle.pages.proofs.Sizes.{sizes-of-accepted}
 use Rattle.pages.proofs.Words.{items-fit}
-use Rattle.layout.specs.Emboss.{Outcome, refused, done, roomed, laid, termsOf, embossFollowed, embossing}
+use Rattle.layout.specs.Emboss.{Outcome, refused, done, roomed, laid, termsOf, embossing}
 use Rattle.layout.specs.inside.Pieces.{withPieces}
 use Rattle.layout.specs.Promises.{Embossed}
 use Rattle.layout.specs.declared.Answer.the-variants.{Done, Refused}
 
-module _ (image text : List ℕ) (sheet : Sheet) (out lent : List ℕ) where
+module _ (setting : Setting) (image text : List ℕ) (sheet : Sheet) (out lent : List ℕ) where
   abbrev result : Result
-  result = translateOn (termsOf blankFollows sheet) image text
+  result = translateOn (termsOf setting sheet) image text
 
   -- what a translation's answer makes of the call
   abbrev pub Case : Translation → List ℕ → Type 0
-  Case (t.Refused r) signs = Embossed image text sheet out (Refused r) out
-  Case (t.Done n k) signs = (a : Filled) (after : List ℕ) → Fills signs k sheet out a after → Embossed image text sheet out (withPieces n a) after
+  Case (t.Refused r) signs = Embossed setting image text sheet out (Refused r) out
+  Case (t.Done n k) signs = (a : Filled) (after : List ℕ) → Fills signs k sheet out a after → Embossed setting image text sheet out (withPieces n a) after
 
-  embossed-as : {o : Outcome} → laid sheet out result ≡ o → Embossed image text sheet out (o .answer) (o .output)
-  unfolding embossing embossFollowed
+  embossed-as : {o : Outcome} → laid sheet out result ≡ o → Embossed setting image text sheet out (o .answer) (o .output)
+  unfolding embossing
   embossed-as e = record { answers = sym (ap (λ (o : Outcome). o .answer) e); leaves = sym (ap (λ (o : Outcome). o .output) e) }
 
   -- what is handed back of pages, with the count of pieces, is what the call hands back
   module _ (ps : List Piece) (e : result ≡ made ps) where
-    made-pieces : Made (termsOf blankFollows sheet) image text ps
-    made-pieces = made-means (termsOf blankFollows sheet) image text e
+    made-pieces : Made (termsOf setting sheet) image text ps
+    made-pieces = made-means (termsOf setting sheet) image text e
 
     abbrev items : List Item
     items = itemsOf (sheet .width) (signsOf ps)
@@ -61,7 +62,7 @@ module _ (image text : List ℕ) (sheet : Sheet) (out lent : List ℕ) where
     fits =
         let w = sizes-of-accepted sheet (made-pieces .allowed) .0 in
         rw (made-pieces .pieces)
-        (items-fit (omega arith) (signsOf (piecesOf (tableOf image) blankFollows text)) (signs-printed (tableOf image) (accepted-sound image (made-pieces .accepted)) blankFollows (collapsed text)))
+        (items-fit (omega arith) (signsOf (piecesOf (tableOf image) setting text)) (signs-printed (tableOf image) (accepted-sound image (made-pieces .accepted)) setting (collapsed text)))
 
     page-room : 0 < sheet .length
     page-room = let p = sizes-of-accepted sheet (made-pieces .allowed) .1 in omega arith
@@ -91,9 +92,10 @@ module _ (image text : List ℕ) (sheet : Sheet) (out lent : List ℕ) where
         leaves = x .leaves ∙ ap (λ (o : Fill.Outcome). o .output) y ∙ z .leaves;
       }
 
-  pub whole-translated : {also : Verdict} {signs : List ℕ} {answer told : Translation} → also ≡ sheetVerdict sheet → Translated image text also lent answer signs
-      → answer ≡ told → Case told signs
+  pub whole-translated : {also : Verdict} {signs : List ℕ} {answer told : Translation} → also ≡ sheetVerdict sheet
+      → Translated (record { setting = setting; also = also }) image text lent answer signs → answer ≡ told → Case told signs
   unfolding translation
   whole-translated {also} {signs} {answer} {told} sizes x e =
-      let same : translation image text also lent ≡ handed lent result = ap (λ (v : Verdict). translation image text v lent) sizes in
+      let same : translation (record { setting = setting; also = also }) image text lent ≡ handed lent result =
+      ap (λ (v : Verdict). translation (record { setting = setting; also = v }) image text lent) sizes in
       subst₂ Case (sym (x .answers ∙ ap (λ o. o .answer) same) ∙ e) (sym (x .leaves ∙ ap (λ o. o .signs) same)) (by-result result refl)

@@ -1,5 +1,5 @@
--- 'What comes back': the answer with its six values, and the whole call, from the image, the text, the sheet and the output as lent to the answer and the
--- output afterwards.
+-- 'What comes back': the answer with its six values, and the whole call, from what follows the text, the image, the text, the sheet and the output as
+-- lent to the answer and the output afterwards.
 use Prim.Native.Nat.{ℕ}
 use mathlib.Core.Bool.{true, false}
 use mathlib.Core.List.{List, _++_}
@@ -11,7 +11,7 @@ use Rattle.table.specs.Table.{Table}
 use Rattle.table.specs.declared.Refusal.{Refusal}
 use Rattle.table.specs.declared.Refusal.the-variants.{Room}
 use Rattle.translation.specs.Pieces.{piecesOf, signsOf}
-use Rattle.translation.specs.Translate.{Result, made, refused as notMade, translateOn, blankFollows}
+use Rattle.translation.specs.Translate.{Result, made, refused as notMade, translateOn}
 use Rattle.translation.specs.declared.Setting.{Setting}
 use Rattle.translation.specs.declared.Terms.{Terms}
 use Rattle.pages.specs.Numbers.{lineMark, pageMark}
@@ -81,9 +81,5 @@ laid sheet out (notMade r) = refused out r
 abbrev pub termsOf : Setting → Sheet → Terms
 termsOf setting sheet = record { setting = setting; also = sheetVerdict sheet }
 
-unfoldable pub embossFollowed : Setting → List ℕ → List ℕ → Sheet → List ℕ → Outcome
-embossFollowed setting image text sheet out = laid sheet out (translateOn (termsOf setting sheet) image text)
-
--- the call of the base: past the end of text stands the blank
-unfoldable pub embossing : List ℕ → List ℕ → Sheet → List ℕ → Outcome
-embossing image text sheet out = embossFollowed blankFollows image text sheet out
+unfoldable pub embossing : Setting → List ℕ → List ℕ → Sheet → List ℕ → Outcome
+embossing setting image text sheet out = laid sheet out (translateOn (termsOf setting sheet) image text)

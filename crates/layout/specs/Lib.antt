@@ -2,4 +2,5 @@ pub mod Emboss
 pub mod Refusals
 pub mod Promises
 pub mod Relied
+pub mod Before
 pub mod inside

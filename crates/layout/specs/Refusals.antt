@@ -3,10 +3,10 @@
 use Prim.Native.Nat.{ℕ, _+_, _<_}
 use mathlib.Core.List.{List}
 use lib.ListN.{length}
-use Rattle.table.specs.Numbers.{noPlace, numberSize, numberLongText, numberUnknown, numberRoom, mostText}
+use Rattle.table.specs.Numbers.{noPlace, numberSize, numberLongText, numberUnknown, numberFollowing, numberRoom, mostText}
 use Rattle.table.specs.Refusals.{tableLines, Line as TableLine}
 use Rattle.table.specs.Table.{tableOf}
-use Rattle.translation.specs.Refusals.{TextTooLong, FirstUnknownAt}
+use Rattle.translation.specs.Refusals.{TextTooLong, FirstUnknownAt, FollowingUnknown}
 use Rattle.translation.specs.declared.Setting.{Setting}
 use Rattle.pages.specs.Refusals.{SizesWrong}
 use Rattle.layout.specs.Emboss.{bytesOf}
@@ -26,6 +26,8 @@ pub data Line (setting : Setting) (image text : List ℕ) (sheet : Sheet) (out :
   line-6 : TextTooLong text → Line setting image text sheet out (tableLines + 2) numberLongText mostText
   -- character without alphabet record: offset of the first one in the text as lent
   line-7 : {at : ℕ} → FirstUnknownAt (tableOf image .letters) text at → Line setting image text sheet out (tableLines + 3) numberUnknown at
+  -- following symbol not in the alphabet
+  line-15 : FollowingUnknown (tableOf image .letters) (setting .following) → Line setting image text sheet out (tableLines + 4) numberFollowing noPlace
   -- output too short: bytes needed
   line-8 : length out < needed setting image text sheet
-      → Line setting image text sheet out (tableLines + 4) numberRoom (needed setting image text sheet)
+      → Line setting image text sheet out (tableLines + 5) numberRoom (needed setting image text sheet)

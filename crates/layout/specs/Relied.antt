@@ -1,5 +1,5 @@
--- What a caller of the whole call may rely on, in the words of the three demands: of an image, a text, a sheet, the bytes lent, the answer and the
--- bytes afterwards. proofs/Relied.antt shows each of whatever answer and bytes the promise of `emboss` allows.
+-- What a caller of the whole call may rely on, in the words of the three demands: of a setting, an image, a text, a sheet, the bytes lent, the answer and
+-- the bytes afterwards. proofs/Relied.antt shows each of whatever answer and bytes the promise of `emboss` allows.
 use Prim.Native.Nat.{ℕ, suc, _<_, _≤_}
 use mathlib.Core.Bool.{false}
 use mathlib.Core.List.{List, _∷_, map, flatten}
@@ -14,7 +14,7 @@ use Rattle.translation.specs.Collapse.{collapsed}
 use Rattle.translation.specs.Decide.{state, moved}
 use Rattle.translation.specs.Pieces.{Piece, characters, piecesOf, signsOf}
 use Rattle.translation.specs.Chosen.{Chosen, piece}
-use Rattle.translation.specs.Translate.{blankFollows}
+use Rattle.translation.specs.declared.Setting.{Setting}
 use Rattle.pages.specs.Numbers.{leastWidth, mostWidth, leastLength, mostLength}
 use Rattle.pages.specs.Lists.{only}
 use Rattle.pages.specs.Words.{Item, itemsOf}
@@ -34,11 +34,11 @@ abbrev pub wrote : Answer → List ℕ → List ℕ
 wrote answer after = take (written answer) after
 
 -- the pieces of the text by the table of the image, and its words and format signs
-abbrev pub textPieces : List ℕ → List ℕ → List Piece
-textPieces image text = piecesOf (tableOf image) blankFollows text
+abbrev pub textPieces : Setting → List ℕ → List ℕ → List Piece
+textPieces setting image text = piecesOf (tableOf image) setting text
 
-abbrev pub textItems : List ℕ → List ℕ → Sheet → List Item
-textItems image text sheet = itemsOf (sheet .width) (signsOf (textPieces image text))
+abbrev pub textItems : Setting → List ℕ → List ℕ → Sheet → List Item
+textItems setting image text sheet = itemsOf (sheet .width) (signsOf (textPieces setting image text))
 
 -- demand 1: the call changed no byte, and has nothing to count
 pub record Untouched (before : List ℕ) (answer : Answer) (after : List ℕ) : Type 0 where
@@ -58,35 +58,37 @@ pub record Bounded (image : List ℕ) (sheet : Sheet) (before : List ℕ) (answe
 
 -- demand 2: the collapsed text is consumed from front to back, at each place by the first admissible entry or by the character's own record, and the
 -- states start at no and are moved by each piece's class. What a piece is given is the rest of the text: the first piece all of it, each next one what the
--- one before leaves; and its first character has an alphabet record
-pub record Translates (image text : List ℕ) (answer : Answer) : Type 0 where
-  pub counted : pieces answer ≡ length (textPieces image text)
-  pub consumed : flatten (map characters (textPieces image text)) ≡ collapsed text
-  pub first-rest : 0 < pieces answer → piece (textPieces image text) 0 .rest ≡ collapsed text
+-- one before leaves; and its first character has an alphabet record. The symbol that follows has
+-- one too; it is looked at past the end and never consumed
+pub record Translates (setting : Setting) (image text : List ℕ) (answer : Answer) : Type 0 where
+  pub counted : pieces answer ≡ length (textPieces setting image text)
+  pub consumed : flatten (map characters (textPieces setting image text)) ≡ collapsed text
+  pub first-rest : 0 < pieces answer → piece (textPieces setting image text) 0 .rest ≡ collapsed text
   pub next-rest : (i : ℕ) → suc i < pieces answer
-      → piece (textPieces image text) (suc i) .rest ≡ drop (piece (textPieces image text) i .shift) (piece (textPieces image text) i .rest)
-  pub known : (i : ℕ) → i < pieces answer → (c : ℕ) (after : List ℕ) → piece (textPieces image text) i .rest ≡ c ∷ after
+      → piece (textPieces setting image text) (suc i) .rest ≡ drop (piece (textPieces setting image text) i .shift) (piece (textPieces setting image text) i .rest)
+  pub known : (i : ℕ) → i < pieces answer → (c : ℕ) (after : List ℕ) → piece (textPieces setting image text) i .rest ≡ c ∷ after
       → HasLetter (tableOf image .letters) c
-  pub chosen : (i : ℕ) → i < pieces answer → Chosen (tableOf image) blankFollows (piece (textPieces image text) i)
-  pub start : 0 < pieces answer → (v : ℕ) → state (piece (textPieces image text) 0 .states) v ≡ false
+  pub following-known : HasLetter (tableOf image .letters) (setting .following)
+  pub chosen : (i : ℕ) → i < pieces answer → Chosen (tableOf image) setting (piece (textPieces setting image text) i)
+  pub start : 0 < pieces answer → (v : ℕ) → state (piece (textPieces setting image text) 0 .states) v ≡ false
   pub move : (i : ℕ) → suc i < pieces answer
-      → piece (textPieces image text) (suc i) .states
-      ≡ moved (tableOf image) (piece (textPieces image text) i .class) (piece (textPieces image text) i .states)
+      → piece (textPieces setting image text) (suc i) .states
+      ≡ moved (tableOf image) (piece (textPieces setting image text) i .class) (piece (textPieces setting image text) i .states)
 
 -- demand 2: the written bytes are those of the rules, and read back as pages they keep every rule of lines and pages
-pub record LaysOut (image text : List ℕ) (sheet : Sheet) (answer : Answer) (after : List ℕ) : Type 0 where
-  pub exact : wrote answer after ≡ bytesOf (tableOf image) blankFollows text sheet
+pub record LaysOut (setting : Setting) (image text : List ℕ) (sheet : Sheet) (answer : Answer) (after : List ℕ) : Type 0 where
+  pub exact : wrote answer after ≡ bytesOf (tableOf image) setting text sheet
   pub right : All (PageRight sheet) (pagesOf (wrote answer after))
   pub bytes : bytesOfPages (pagesOf (wrote answer after)) ≡ wrote answer after
   pub lines : length (flatten (pagesOf (wrote answer after))) ≡ lines answer
   pub pages : length (pagesOf (wrote answer after)) ≡ pages answer
-  pub signs : only isDotted (flatten (flatten (pagesOf (wrote answer after)))) ≡ only isDotted (signsOf (textPieces image text))
+  pub signs : only isDotted (flatten (flatten (pagesOf (wrote answer after)))) ≡ only isDotted (signsOf (textPieces setting image text))
 
 -- demand 3: the layout that the written bytes show, page by page, is permitted; no permitted layout has a word earlier, fewer lines or fewer pages
-pub record Earliest (image text : List ℕ) (sheet : Sheet) (answer : Answer) (after : List ℕ) : Type 0 where
+pub record Earliest (setting : Setting) (image text : List ℕ) (sheet : Sheet) (answer : Answer) (after : List ℕ) : Type 0 where
   pub ours : Layout
-  pub shown : Shows (wrote answer after) (wordsIn (textItems image text sheet)) ours
+  pub shown : Shows (wrote answer after) (wordsIn (textItems setting image text sheet)) ours
   pub lines : ours .lines ≡ lines answer
   pub pages : length (ours .pages) ≡ pages answer
-  pub permitted : Permitted sheet (textItems image text sheet) ours
-  pub no-later : (other : Layout) → Permitted sheet (textItems image text sheet) other → NoLater ours other
+  pub permitted : Permitted sheet (textItems setting image text sheet) ours
+  pub no-later : (other : Layout) → Permitted sheet (textItems setting image text sheet) other → NoLater ours other

@@ -1,6 +1,6 @@
 // The whole of the paper in one call: a table image and a text in, cells in lines and pages out.
-// Any image, text, sheet and output get their answer; a refused call changes no byte, and a done
-// one none beyond the bytes that it writes.
+// Any setting, image, text, sheet and output get their answer; a refused call changes no byte, and
+// a done one none beyond the bytes that it writes.
 
 ghost use mathlib.Core.Path.{_≡_};
 ghost use Rattle.layout.specs.inside.Pieces.{withPieces};
@@ -9,6 +9,8 @@ use crate::Answer;
 use pages::Filled;
 use pages::Sheet;
 use pages::fill;
+use translation::Setting;
+use translation::Terms;
 use translation::Translation;
 use translation::translate;
 
@@ -31,13 +33,17 @@ fn with_pieces(pieces: usize, filled: Filled) -> Answer
     }
 }
 
-// The checks are made in the paper's order: the table's, the sheet's, the text's, and last the
-// room's.
-pub fn emboss(image: &[u8], text: &[u8], sheet: Sheet, out: &mut [u8]) -> Answer
-    ensures { λ r. ⌜ Embossed (now (image .entry)) (now (text .entry)) sheet (now (out .entry)) r (now (out .exit)) ⌝ }
+// The checks are made in the paper's order: the table's, the sheet's, the text's, that of the
+// symbol which follows it, and last the room's.
+pub fn emboss(setting: Setting, image: &[u8], text: &[u8], sheet: Sheet, out: &mut [u8]) -> Answer
+    ensures { λ r. ⌜ Embossed setting (now (image .entry)) (now (text .entry)) sheet (now (out .entry)) r (now (out .exit)) ⌝ }
 {
     let mut signs = [0u8; 65536];
-    match translate(image, text, sheet.verdict(), &mut signs) {
+    let terms = Terms {
+        setting: setting,
+        also: sheet.verdict(),
+    };
+    match translate(terms, image, text, &mut signs) {
         Translation::Refused(refusal) => Answer::Refused(refusal),
         Translation::Done {
             pieces: pieces,

@@ -1,6 +1,6 @@
 -- 'What comes back', for the calls of every layer: the number and the place of each refusal.
 use Prim.Native.Nat.{ℕ}
-use Rattle.table.specs.Numbers.{numberFrame, numberAlphabet, numberContractions, numberContexts, numberTransitions, numberDecisions, numberNoBlank, numberGrouping, numberSize, numberLongText, numberUnknown, numberRoom, noPlace, mostText}
+use Rattle.table.specs.Numbers.{numberFrame, numberAlphabet, numberContractions, numberContexts, numberTransitions, numberDecisions, numberNoBlank, numberGrouping, numberSize, numberLongText, numberUnknown, numberFollowing, numberRoom, noPlace, mostText}
 use Rattle.table.specs.declared.Refusal.{Refusal}
 use Rattle.table.specs.declared.Refusal.the-variants as why
 
@@ -16,6 +16,7 @@ refusalNumber (why.Grouping at) = numberGrouping
 refusalNumber why.Size = numberSize
 refusalNumber why.LongText = numberLongText
 refusalNumber (why.Unknown at) = numberUnknown
+refusalNumber why.Following = numberFollowing
 refusalNumber (why.Room needed) = numberRoom
 
 abbrev pub refusalPlace : Refusal → ℕ
@@ -30,4 +31,5 @@ refusalPlace (why.Grouping at) = at
 refusalPlace why.Size = noPlace
 refusalPlace why.LongText = mostText
 refusalPlace (why.Unknown at) = at
+refusalPlace why.Following = noPlace
 refusalPlace (why.Room needed) = needed

@@ -235,6 +235,9 @@ numberLongText = 6
 abbrev pub numberUnknown : ℕ
 numberUnknown = 7
 
+abbrev pub numberFollowing : ℕ
+numberFollowing = 15
+
 abbrev pub numberRoom : ℕ
 numberRoom = 8
 

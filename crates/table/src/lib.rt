@@ -50,6 +50,7 @@ pub enum Refusal {
     Size,
     LongText,
     Unknown(usize),
+    Following,
     Room(usize),
 }
 

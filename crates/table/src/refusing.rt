@@ -20,6 +20,7 @@ impl Refusal {
             Refusal::Size => 5,
             Refusal::LongText => 6,
             Refusal::Unknown(_) => 7,
+            Refusal::Following => 15,
             Refusal::Room(_) => 8,
         }
     }
@@ -40,6 +41,7 @@ impl Refusal {
             Refusal::Size => 0,
             Refusal::LongText => 16384,
             Refusal::Unknown(at) => at,
+            Refusal::Following => 0,
             Refusal::Room(needed) => needed,
         }
     }

@@ -19,6 +19,7 @@ pub mod Printing
 pub mod Fronts
 pub mod Cursor
 pub mod Outcomes
+pub mod Following
 pub mod Limits
 pub mod Promises
 pub mod Accepted

@@ -1,5 +1,6 @@
 -- What a text comes to, check by check, and what the call then hands back: a refusal with the signs as they were, or the pieces with their signs at the front.
 use Prim.Native.Nat.{ℕ, _≤_, _<_}
+use mathlib.Core.Bool.{Bool, true, false}
 use mathlib.Core.List.{List}
 use mathlib.Core.Option.{Option, none, some}
 use mathlib.Core.Path.{_≡_, refl, ap₂}
@@ -10,14 +11,14 @@ use borrow.Author.Tests.{le-leb, lt-leb}
 use Rattle.table.specs.Table.{Table, tableOf}
 use Rattle.table.specs.Verdict.{verdictOf}
 use Rattle.table.specs.declared.Refusal.{Refusal}
-use Rattle.table.specs.declared.Refusal.the-variants.{LongText, Unknown}
+use Rattle.table.specs.declared.Refusal.the-variants.{LongText, Unknown, Following}
 use Rattle.table.specs.declared.Verdict.{Verdict}
 use Rattle.table.specs.declared.Verdict.the-variants.{Accepted, Refused as NotAccepted}
 use Rattle.table.specs.Numbers.{mostText}
-use Rattle.translation.specs.Letters.{firstUnknown}
+use Rattle.translation.specs.Letters.{isKnown, firstUnknown}
 use Rattle.translation.specs.Pieces.{Piece, piecesOf}
 use Rattle.translation.specs.inside.Making.{Consumed}
-use Rattle.translation.specs.Translate.{Result, made, refused, translateBy, translateOn}
+use Rattle.translation.specs.Translate.{Result, made, refused, translateFollowed, translateBy, translateOn}
 use Rattle.translation.specs.Handed.{handed, Ends}
 use Rattle.translation.specs.declared.Setting.{Setting}
 use Rattle.translation.specs.declared.Terms.{Terms}
@@ -37,9 +38,15 @@ module _ (table : Table) (setting : Setting) (text : List ℕ) where
   unfolding translateBy
   unknown-at i short e = rw (le-leb (length text) mostText short, translateBy, e)
 
-  pub made-by : length text ≤ mostText → firstUnknown (table .letters) text ≡ none → translateBy table setting text ≡ made (piecesOf table setting text)
-  unfolding translateBy
-  made-by short e = rw (le-leb (length text) mostText short, translateBy, e)
+  pub following-refused : length text ≤ mostText → firstUnknown (table .letters) text ≡ none → isKnown (table .letters) (setting .following) ≡ false
+      → translateBy table setting text ≡ refused Following
+  unfolding translateBy translateFollowed
+  following-refused short e f = rw (le-leb (length text) mostText short, translateBy, e, f, translateFollowed)
+
+  pub made-by : length text ≤ mostText → firstUnknown (table .letters) text ≡ none → isKnown (table .letters) (setting .following) ≡ true
+      → translateBy table setting text ≡ made (piecesOf table setting text)
+  unfolding translateBy translateFollowed
+  made-by short e f = rw (le-leb (length text) mostText short, translateBy, e, f, translateFollowed)
 
 -- ---- The table, and the caller's own checks
 
@@ -61,17 +68,26 @@ module _ (terms : Terms) (image text : List ℕ) where
     pub accepted : verdictOf image ≡ Accepted
     pub allowed : terms .also ≡ Accepted
     pub short : length text ≤ mostText
+    pub known : isKnown (tableOf image .letters) (terms .setting .following) ≡ true
     pub pieces : ps ≡ piecesOf (tableOf image) (terms .setting) text
 
   pub made-means : {ps : List Piece} → translateOn terms image text ≡ made ps → Made ps
   made-means {ps} e = by-verdict (verdictOf image) refl (terms .also) refl
     where
+      by-following : verdictOf image ≡ Accepted → terms .also ≡ Accepted → length text ≤ mostText → firstUnknown (tableOf image .letters) text ≡ none
+          → (b : Bool) → isKnown (tableOf image .letters) (terms .setting .following) ≡ b → Made ps
+      by-following v a short f true k =
+          let m = made-by (tableOf image) (terms .setting) text short f k in
+          let g = goes-on v a in
+          record { accepted = v; allowed = a; short = short; known = k; pieces = cc }
+      by-following v a short f false k =
+          let m = following-refused (tableOf image) (terms .setting) text short f k in
+          let g = goes-on v a in
+          let z : _≡_ {A = ℕ} 0 1 = cc in absurd (omega arith)
+
       by-letters : verdictOf image ≡ Accepted → terms .also ≡ Accepted → length text ≤ mostText → (o : Option ℕ)
           → firstUnknown (tableOf image .letters) text ≡ o → Made ps
-      by-letters v a short none f =
-          let m = made-by (tableOf image) (terms .setting) text short f in
-          let g = goes-on v a in
-          record { accepted = v; allowed = a; short = short; pieces = cc }
+      by-letters v a short none f = by-following v a short f (isKnown (tableOf image .letters) (terms .setting .following)) refl
       by-letters v a short (some at) f =
           let m = unknown-at (tableOf image) (terms .setting) text at short f in
           let g = goes-on v a in

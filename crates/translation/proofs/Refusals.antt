@@ -1,4 +1,5 @@
--- Refusal 7: the search for the first unknown character of the text as lent answers exactly what the paper's words say.
+-- Refusals 7 and 15: the search for the first unknown character of the text as lent answers exactly what the paper's words say, and so does the look at
+-- the symbol that follows it.
 use Prim.Native.Nat.{ℕ, _<_}
 use mathlib.Core.Bool.{Bool, false≢true}
 use mathlib.Core.List.{List}
@@ -19,7 +20,7 @@ use Rattle.table.proofs.Search.{first-found, first-missing, first-is, first-is-
 use Rattle.table.proofs.Tests.{Tells, clash, fails-law, tells-and, tells-not, tells-eq}
 use Rattle.translation.specs.Numbers.{lineFeed}
 use Rattle.translation.specs.Collapse.{unfed}
-use Rattle.translation.specs.Letters.{noLetter, letter, letterOf, isUnknown, firstUnknown}
+use Rattle.translation.specs.Letters.{noLetter, letter, letterOf, isKnown, isUnknown, firstUnknown}
 use Rattle.translation.specs.Refusals.{UnknownAt, FirstUnknownAt}
 
 module _ (letters : List Letter) where
@@ -49,6 +50,11 @@ module _ (letters : List Letter) where
                 },
             λ _. refl,
           )
+
+  -- 15 exactly where the following symbol isn't in the alphabet
+  pub known-exactly-when : (c : ℕ) → Tells (isKnown letters c) (HasLetter letters c)
+  unfolding isKnown
+  known-exactly-when c = letter-law c
 
   -- ---- One character
 

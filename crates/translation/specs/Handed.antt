@@ -3,9 +3,8 @@ use Prim.Native.Nat.{ℕ}
 use mathlib.Core.List.{List, _++_}
 use mathlib.Core.Path.{_≡_}
 use lib.ListN.{length, drop}
-use Rattle.table.specs.declared.Verdict.{Verdict}
 use Rattle.translation.specs.Pieces.{signsOf}
-use Rattle.translation.specs.Translate.{Result, made, refused, translateOn, blankFollows}
+use Rattle.translation.specs.Translate.{Result, made, refused, translateOn}
 use Rattle.translation.specs.declared.Terms.{Terms}
 use Rattle.translation.specs.declared.Translation.{Translation}
 use Rattle.translation.specs.declared.Translation.the-variants.{Done, Refused}
@@ -25,9 +24,5 @@ pub record Ends (outcome : Outcome) (answer : Translation) (after : List ℕ) : 
   pub answers : answer ≡ outcome .answer
   pub leaves : after ≡ outcome .signs
 
--- the call of the base: past the end of text stands the blank
-abbrev pub baseTerms : Verdict → Terms
-baseTerms also = record { setting = blankFollows; also = also }
-
-unfoldable pub translation : List ℕ → List ℕ → Verdict → List ℕ → Outcome
-translation image text also before = handed before (translateOn (baseTerms also) image text)
+unfoldable pub translation : Terms → List ℕ → List ℕ → List ℕ → Outcome
+translation terms image text before = handed before (translateOn terms image text)

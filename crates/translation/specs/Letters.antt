@@ -27,6 +27,10 @@ letterFor letters c = elim (letterOf letters c) [ none ↦ noLetter | some k ↦
 unfoldable pub classOf : List Letter → ℕ → ℕ
 classOf letters c = letterFor letters c .class
 
+-- the symbol that follows the end is looked up as it is: no alphabet has a line feed or a bar
+unfoldable pub isKnown : List Letter → ℕ → Bool
+isKnown letters c = isThere (letterOf letters c)
+
 -- every remaining character needs an alphabet record: a bar doesn't remain, and a line feed is a blank
 unfoldable pub isUnknown : List Letter → ℕ → Bool
 isUnknown letters c = not (eqb c bar) && not (isThere (letterOf letters (unfed c)))

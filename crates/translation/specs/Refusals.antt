@@ -1,4 +1,4 @@
--- The lines of refusals 6 and 7 in 'What comes back', in the paper's words: no search, 'first' is a quantifier.
+-- The lines of refusals 6, 7 and 15 in 'What comes back', in the paper's words: no search, 'first' is a quantifier.
 use Prim.Native.Nat.{ℕ, _<_}
 use mathlib.Core.List.{List}
 use mathlib.Core.Logic.{_≢_}
@@ -22,3 +22,7 @@ pub record UnknownAt (letters : List Letter) (text : List ℕ) (i : ℕ) : Type 
 pub record FirstUnknownAt (letters : List Letter) (text : List ℕ) (i : ℕ) : Type 0 where
   pub unknown : UnknownAt letters text i
   pub none-before : (j : ℕ) → j < i → UnknownAt letters text j → ⊥
+
+-- 15: the following symbol isn't in the alphabet
+abbrev pub FollowingUnknown : List Letter → ℕ → Type 0
+FollowingUnknown letters following = HasLetter letters following → ⊥

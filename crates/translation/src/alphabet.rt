@@ -1,5 +1,5 @@
-// The alphabet: which record has a symbol, the class and the sign of a symbol, and the first
-// character of a text that has no record.
+// The alphabet: which record has a symbol, whether one has, the class and the sign of a symbol, and
+// the first character of a text that has no record.
 
 ghost use mathlib.Core.Path.{_≡_};
 ghost use Prim.Native.Nat.{_≤_};
@@ -7,7 +7,7 @@ ghost use lib.ListN.{length};
 ghost use Rattle.table.specs.Table.{tableIn};
 ghost use Rattle.table.specs.inside.Found.{found};
 ghost use Rattle.table.specs.Numbers.{mostText};
-ghost use Rattle.translation.specs.Letters.{letterOf, letterFor, classOf, isUnknown, firstUnknown};
+ghost use Rattle.translation.specs.Letters.{letterOf, letterFor, classOf, isKnown, isUnknown, firstUnknown};
 ghost use Rattle.translation.specs.inside.Opened.{Opened};
 use crate::collapsing;
 use table::Found;
@@ -53,6 +53,17 @@ pub(crate) fn sign_of(image: &[u8], s: Sections, c: u8) -> u8
     match letter_of(image, s, c) {
         Found::At(k) => table::record_byte(image, alphabet, k, 2),
         Found::Nothing => 99,
+    }
+}
+
+// Whether a symbol has a record.
+pub(crate) fn is_known(image: &[u8], s: Sections, c: u8) -> bool
+    requires { ⌜ Opened (now image) s ⌝ }
+    ensures { λ r. ⌜ r ≡ isKnown (tableIn (now (image .entry)) s .letters) c ⌝ }
+{
+    match letter_of(image, s, c) {
+        Found::At(_) => true,
+        Found::Nothing => false,
     }
 }
 

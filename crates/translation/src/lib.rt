@@ -15,7 +15,7 @@ use table::Verdict;
 pub use translating::translate;
 
 // What a translation is told besides the table and the text: the symbol that follows the end of the
-// text.
+// text. It is looked at and never consumed.
 pub struct Setting {
     pub following: u8,
 }

@@ -14,6 +14,7 @@ use crate::Setting;
 use crate::Terms;
 use crate::Translation;
 use crate::alphabet::first_unknown;
+use crate::alphabet::is_known;
 use crate::collapsing::collapse;
 use crate::piecing::consume;
 use table::Found;
@@ -22,7 +23,8 @@ use table::Refusal;
 use table::Sections;
 use table::Verdict;
 
-// Refusals 6 and 7, or the pieces of the text and their signs, by the table of an accepted image.
+// Refusals 6, 7 and 15, or the pieces of the text and their signs, by the table of an accepted
+// image.
 fn translate_by(
     image: &[u8],
     s: Sections,
@@ -40,15 +42,16 @@ fn translate_by(
     let mut buffer = [0u8; 16384];
     let n = collapse(text, &mut buffer);
     let collapsed = &buffer[..n];
-    match first_unknown(image, s, text) {
-        Found::At(i) => Translation::Refused(Refusal::Unknown(i as usize)),
-        Found::Nothing => {
-            let counts = consume(image, s, setting, collapsed, signs);
-            Translation::Done {
-                pieces: counts.pieces,
-                signs: counts.signs,
-            }
-        }
+    if let Found::At(i) = first_unknown(image, s, text) {
+        return Translation::Refused(Refusal::Unknown(i as usize));
+    }
+    if !is_known(image, s, setting.following) {
+        return Translation::Refused(Refusal::Following);
+    }
+    let counts = consume(image, s, setting, collapsed, signs);
+    Translation::Done {
+        pieces: counts.pieces,
+        signs: counts.signs,
     }
 }
 
@@ -93,21 +96,12 @@ fn translate_on(terms: Terms, image: &[u8], text: &[u8], signs: &mut [u8]) -> Tr
     translate_read(r, terms, text, signs)
 }
 
-// Translates a text by a table: the refusal, or how many pieces it has and how many signs, which
-// stand at the front of `signs`. What lies beyond them, and all of `signs` where it is refused, is
-// as it was. `also` is what the caller's own checks say: they come after the table's and before the
-// text's.
-pub fn translate(image: &[u8], text: &[u8], also: Verdict, signs: &mut [u8; 65536]) -> Translation
-    ensures { λ r. ⌜ Translated (now (image .entry)) (now (text .entry)) also (now (signs .entry)) r (now (signs .exit)) ⌝ }
+// Translates a text by a table, on the caller's terms: the refusal, or how many pieces it has and
+// how many signs, which stand at the front of `signs`. What lies beyond them, and all of `signs`
+// where it is refused, is as it was. The terms say which symbol follows the text, and what the
+// caller's own checks say: they come after the table's and before the text's.
+pub fn translate(terms: Terms, image: &[u8], text: &[u8], signs: &mut [u8; 65536]) -> Translation
+    ensures { λ r. ⌜ Translated terms (now (image .entry)) (now (text .entry)) (now (signs .entry)) r (now (signs .exit)) ⌝ }
 {
-    let setting = Setting { following: 32 };
-    translate_on(
-        Terms {
-            setting: setting,
-            also: also,
-        },
-        image,
-        text,
-        signs,
-    )
+    translate_on(terms, image, text, signs)
 }

@@ -24,7 +24,7 @@ with-pieces-requires c κs = search needs
 
 returns : tie.Need-returns
 returns c =
-    whole-translated _ _ _ _ _ (c .before .before .before .before .before .verdict .ensures .is) (c .before .before .before .translate .ensures) (c .before .refusal .given .1)
+    whole-translated _ _ _ _ _ _ (c .before .before .before .before .before .verdict .ensures .is) (c .before .before .before .translate .ensures) (c .before .refusal .given .1)
 
 same-length : tie.Need-same-length
 same-length c = search needs
@@ -33,7 +33,7 @@ returns-2 : tie.Need-returns-2
 returns-2 c =
     let filled = c .before .before .before in
     let told = filled .before .before .before in
-    let case = whole-translated _ _ _ _ _ (told .before .before .before .before .before .verdict .ensures .is) (told .before .before .before .translate .ensures) (told .before .pieces .given .1) in
+    let case = whole-translated _ _ _ _ _ _ (told .before .before .before .before .before .verdict .ensures .is) (told .before .before .before .translate .ensures) (told .before .pieces .given .1) in
     rw (c .with-pieces .ensures) (case _ _ (filled .fill .ensures))
 
 pub emboss-spec : {M : Type 1} → statement M

@@ -1,4 +1,4 @@
--- `translation::translating::translate` meets its contract: what follows the text is the blank, and the array that is lent has 65,536 bytes.
+-- `translation::translating::translate` meets its contract: the array that is lent has 65,536 bytes, as many as a text can have signs.
 use borrow.Author.Needs.{needs}
 use Rattle.translation.specs.Handed.{translation}
 use Rattle.translation.proofs.translating.translate.Statement.{statement}
