@@ -732,6 +732,9 @@ static void format(struct place *p, size page, uint8_t g)
     }
 }
 
+/* The cells of a word wait until there is one more than the width: only that one says that the
+   word is cut. Then all but the last of those that wait are placed, with the hyphen, and the last
+   and the new one wait. */
 static struct place measure(const uint8_t *signs, size length, size width, size page)
 {
     struct place p = {0};
@@ -745,9 +748,11 @@ static struct place measure(const uint8_t *signs, size length, size width, size 
             flush(&p, width, page, n);
             format(&p, page, signs[i]);
             n = 0;
-        } else if (++n == width) {
-            word(&p, width, page, n);
-            n = 0;
+        } else if (n < width) {
+            n++;
+        } else {
+            word(&p, width, page, width);
+            n = 2;
         }
     }
     flush(&p, width, page, n);
@@ -756,6 +761,8 @@ static struct place measure(const uint8_t *signs, size length, size width, size 
 }
 
 /* ---- layout: the pass that writes (writing) */
+
+enum { HYPHEN = 36 };
 
 static void put_cells(uint8_t *out, struct place *p, size blanks, const uint8_t *run, size n)
 {
@@ -842,6 +849,17 @@ static void put_format(uint8_t *out, struct place *p, size page, uint8_t g)
     }
 }
 
+/* The word in `run` has as many cells as the width, and here comes one more. */
+static void put_part(uint8_t *out, struct place *p, uint8_t *run, uint8_t g, size width, size page)
+{
+    uint8_t held = run[width - 1];
+
+    run[width - 1] = HYPHEN;
+    put_word(out, p, run, width, width, page);
+    run[0] = held;
+    run[1] = g;
+}
+
 static void write(const uint8_t *signs, size length, size width, size page, uint8_t *out)
 {
     uint8_t run[60];
@@ -856,12 +874,11 @@ static void write(const uint8_t *signs, size length, size width, size page, uint
             put_flush(out, &p, run, n, width, page);
             put_format(out, &p, page, signs[i]);
             n = 0;
-        } else {
+        } else if (n < width) {
             run[n++] = signs[i];
-            if (n == width) {
-                put_word(out, &p, run, n, width, page);
-                n = 0;
-            }
+        } else {
+            put_part(out, &p, run, signs[i], width, page);
+            n = 2;
         }
     }
     put_flush(out, &p, run, n, width, page);

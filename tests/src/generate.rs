@@ -1,6 +1,7 @@
-//! Random cases from a seed: sound tables and damaged ones, texts dense in the table's own strings, symbols that
-//! follow them, widths and page lengths across and beyond their limits, output rooms around what is needed. The
-//! same seed gives the same case on every machine. Most cases are small; a few reach every limit.
+//! Random cases from a seed: sound tables and damaged ones, texts dense in the table's own strings,
+//! words about as wide as a line or as some, symbols that follow the texts, widths and page lengths
+//! across and beyond their limits, output rooms around what is needed. The same seed gives the same
+//! case on every machine. Most cases are small; a few reach every limit.
 
 use crate::counts::Notes;
 use crate::reference::{emboss, Asked};
@@ -106,6 +107,7 @@ counted! {
         TextOf16380: "texts of 16,380 to 16,384 bytes",
         TextOver: "texts over 16,384 bytes",
         StrangeCharacter: "texts with any byte put in",
+        WordAtMargin: "texts with a word put in that is cut, or just isn't",
         FollowingLetter: "symbols of the alphabet following",
         FollowingBlank: "blanks following",
         FollowingOther: "symbols 33 to 126 outside the alphabet following",
@@ -162,6 +164,7 @@ pub fn case(seed: u64) -> Case {
         (0..=255, 0..=255) => Kind::SizesBeyond,
         _ => Kind::SizesFar,
     });
+    word_at_margin(random, &table, w, &mut text, &mut kinds);
     end_in_entry(random, &table, &mut text);
     let following = following(random, &table, &mut kinds);
     let room = room(random, Asked { image: &image, text: &text, following, w, p }, &mut kinds);
@@ -675,6 +678,30 @@ fn text(random: &mut Random, table: &Table, kinds: &mut Vec<Kind>) -> Vec<u8> {
         }
     }
     text
+}
+
+/// In some texts characters give way to a word that is cut, or just isn't: so many times one
+/// character that prints a cell and begins no entry, between two blanks.
+fn word_at_margin(random: &mut Random, table: &Table, w: u64, text: &mut [u8], kinds: &mut Vec<Kind>) {
+    let begins_none = |symbol: u8| table.entries.iter().all(|entry| entry.string[0] != symbol);
+    let cells: Vec<u8> = table
+        .alphabet
+        .iter()
+        .filter(|[symbol, _, sign]| (1..=63).contains(sign) && begins_none(*symbol))
+        .map(|letter| letter[0])
+        .collect();
+    if cells.is_empty() || !(8..=60).contains(&w) || !random.once_in(4) {
+        return;
+    }
+    let w = w as usize;
+    let length = random.any(&[w - 1, w, w + 1, 2 * w - 2, 2 * w - 1, 2 * w, 3 * w - 3, 3 * w - 2, 3 * w - 1]);
+    if let Some(last) = text.len().checked_sub(length + 2) {
+        let put_in = &mut text[random.between(0, last)..][..length + 2];
+        put_in.fill(random.any(&cells));
+        put_in[0] = b' ';
+        put_in[length + 1] = b' ';
+        kinds.push(Kind::WordAtMargin);
+    }
 }
 
 /// In some texts the last characters give way to the whole string of an entry with a right context, so that the

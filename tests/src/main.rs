@@ -20,7 +20,7 @@ use reference::{emboss, emboss_planted, Answer, Planted};
 use std::io::{Read, Write};
 use std::process::{exit, Command, Stdio};
 
-const USAGE: &str = "compare --seed S --cases N --program WORD [--program WORD ...] [--planted 1..11] [--batch N] [--all-counts]
+const USAGE: &str = "compare --seed S --cases N --program WORD [--program WORD ...] [--planted 1..14] [--batch N] [--all-counts]
 compare case SEED
 compare table FILE IMAGE
 compare vectors FOLDER --program WORD [--program WORD ...]
@@ -85,6 +85,9 @@ impl Settings {
                         "9" => Planted::BlankWhateverFollows,
                         "10" => Planted::FollowingInside,
                         "11" => Planted::FollowingBeforeText,
+                        "12" => Planted::HyphenOnWhole,
+                        "13" => Planted::HyphenOverWidth,
+                        "14" => Planted::HyphenOnRest,
                         _ => return Err(USAGE.to_string()),
                     }
                 }

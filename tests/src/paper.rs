@@ -58,13 +58,13 @@ fn twelve_examples() {
 
 #[test]
 fn corners() {
-    assert_eq!(ask(b"AAAAAAAAA", 8, 2, 100).1, [1, 1, 1, 1, 1, 1, 1, 1, 64, 1, 64, 65]);
     assert_eq!(ask(b"$PAAAAAAA", 8, 2, 100).1, [1, 1, 1, 1, 1, 1, 1, 64, 65]);
     assert_eq!(ask(b"A|a", 8, 2, 100).0, refused(7, 2));
     assert_eq!(ask(b"COME", 8, 2, 3).0, refused(8, 4));
     assert_eq!(ask(b"COME", 8, 2, 4).0.number, 0);
-    assert_eq!(ask(&[b'A'; 16_384], 8, 2, 65_536).0.lines, 2048);
-    assert_eq!(ask(&[b'A'; 16_384], 8, 2, 65_536).0.pages, 1024);
+    // 2,340 parts of seven A and the hyphen, and four A.
+    assert_eq!(ask(&[b'A'; 16_384], 8, 2, 65_536).0.lines, 2341);
+    assert_eq!(ask(&[b'A'; 16_384], 8, 2, 65_536).0.pages, 1171);
     assert_eq!(ask(&[b'A'; 16_385], 8, 2, 65_536).0, refused(6, 16_384));
     for (w, number) in [(7, 5), (8, 0), (60, 0), (61, 5)] {
         assert_eq!(ask(b"COME", w, 2, 100).0.number, number, "W {w}");
@@ -243,6 +243,114 @@ fn errors_of_which_byte() {
     shows(Planted::SignAtThe99, &[(73, 7)], (11, 73), (11, 72));
     shows(Planted::NumbersExchanged, &[(183, 6)], (12, 183), (13, 183));
     shows(Planted::NumbersExchanged, &[(187, b'G')], (13, 187), (12, 187));
+}
+
+/// The lines of a text at W 8 and P 40, so that it has one page.
+fn lines(text: &str) -> Vec<Vec<u8>> {
+    let (answer, wrote) = ask(text.as_bytes(), 8, 40, 1000);
+    assert_eq!((answer.number, answer.pages, wrote.last()), (0, 1, Some(&65)), "{text}");
+    let lines = wrote[..wrote.len() - 1].split_inclusive(|byte| *byte == 64);
+    lines.map(|line| line[..line.len() - 1].to_vec()).collect()
+}
+
+/// So many A and the hyphen, or, of a rest, no hyphen.
+fn part(a: usize, hyphen: &[u8]) -> Vec<u8> {
+    [&vec![1; a], hyphen].concat()
+}
+
+/// Request 2 of document 02: while more than W cells of a word remain, a part is W-1 cells and then
+/// cell 36; the rest, at most W, has none.
+#[test]
+fn cut_words_carry_a_hyphen() {
+    assert_eq!(ask(b"AAAAAAAAA", 8, 2, 100).1, [1, 1, 1, 1, 1, 1, 1, 36, 64, 1, 1, 64, 65]);
+    let (cut, rest) = ([36], []);
+    // How many A, and how many of them each line has.
+    let words: [(usize, &[usize]); 12] = [
+        (7, &[7]),
+        (8, &[8]),
+        (9, &[7, 2]),
+        (10, &[7, 3]),
+        (14, &[7, 7]),
+        (15, &[7, 8]),
+        (16, &[7, 7, 2]),
+        (17, &[7, 7, 3]),
+        (21, &[7, 7, 7]),
+        (22, &[7, 7, 8]),
+        (23, &[7, 7, 7, 2]),
+        (24, &[7, 7, 7, 3]),
+    ];
+    for (cells, of_lines) in words {
+        let last = of_lines.len() - 1;
+        let parts = of_lines.iter().enumerate();
+        let right: Vec<Vec<u8>> = parts.map(|(at, a)| part(*a, if at < last { &cut } else { &rest })).collect();
+        assert_eq!(lines(&"A".repeat(cells)), right, "{cells} A");
+    }
+    // At every width: the parts but the last have W cells and end in the hyphen, and the cells
+    // without these hyphens are the word's; the rest has two cells at least.
+    for w in 8..=60 {
+        for cells in w + 1..=4 * w {
+            let (_, wrote) = ask(&vec![b'A'; cells], w as u64, 40, 1000);
+            let lines: Vec<&[u8]> = wrote[..wrote.len() - 1].split_inclusive(|byte| *byte == 64).collect();
+            let (rest, parts) = lines.split_last().unwrap();
+            assert!(parts.iter().all(|line| line.len() == w + 1 && line.ends_with(&[1, 36, 64])), "{cells} A at W {w}");
+            assert!((3..=w + 1).contains(&rest.len()) && !rest.contains(&36), "{cells} A at W {w}");
+            let printed = |line: &&[u8]| line.iter().filter(|cell| **cell == 1).count();
+            assert_eq!(lines.iter().map(printed).sum::<usize>(), cells, "W {w}");
+        }
+    }
+}
+
+/// Parts count as words: a rest is followed on its line, a first part begins one, and is the word
+/// that opens a paragraph, in column 0, since it has W cells. A rest doesn't open it any more.
+#[test]
+fn parts_count_as_words() {
+    let nine = "A".repeat(9);
+    let right = |rest: &[u8]| vec![part(7, &[36]), rest.to_vec()];
+    assert_eq!(lines(&format!("{nine} AAAAA")), right(&[1, 1, 0, 1, 1, 1, 1, 1]));
+    assert_eq!(lines(&format!("{nine} AAAAAA")), [right(&[1, 1]), vec![part(6, &[])]].concat());
+    assert_eq!(lines(&format!("A {nine}")), [vec![part(1, &[])], right(&[1, 1])].concat());
+    assert_eq!(lines(&format!("$P{nine}")), right(&[1, 1]));
+    assert_eq!(lines(&format!("$P{nine}$PA")), [right(&[1, 1]), vec![vec![0, 0, 1]]].concat());
+    // Two cut words: between them the gap that parted them.
+    assert_eq!(lines(&format!("{nine} {nine}")), [right(&[1, 1]), right(&[1, 1])].concat());
+    assert_eq!(ask(format!("$P{nine}").as_bytes(), 8, 2, 100).1, [1, 1, 1, 1, 1, 1, 1, 36, 64, 1, 1, 64, 65]);
+}
+
+/// 36 is the sign of COM and of `-` too: such a cell is the word's own, and neither stands for the
+/// hyphen of a cut nor is one.
+#[test]
+fn cells_36_of_the_word_itself() {
+    assert_eq!(lines("AAAAAA-AA"), [vec![1, 1, 1, 1, 1, 1, 36, 36], vec![1, 1]]);
+    assert_eq!(lines("AAAAAAA-A"), [part(7, &[36]), vec![36, 1]]);
+    assert_eq!(lines("AAAAAAAA-"), [part(7, &[36]), vec![1, 36]]);
+    assert_eq!(lines("AAAAAAA-"), [part(7, &[36])]);
+    assert_eq!(lines("COMAAAAAAAA"), [vec![36, 1, 1, 1, 1, 1, 1, 36], vec![1, 1]]);
+    assert_eq!(lines(&"-".repeat(15)), vec![vec![36; 8]; 2]);
+}
+
+/// The errors that request 2 of document 02 invites, each by how many A stand on which line.
+#[test]
+fn errors_of_the_hyphen() {
+    let shows = |planted: Planted, cells: usize, right: &[&[u8]], error: &[&[u8]]| {
+        let ask = |planted| {
+            let mut out = [0; 100];
+            let asked = Asked { image: &image(), text: &vec![b'A'; cells], following: b' ', w: 8, p: 40 };
+            let answer = emboss_planted(planted, asked, &mut out, &mut Notes::new());
+            out[..answer.written as usize].to_vec()
+        };
+        let bytes = |lines: &[&[u8]]| [lines.join(&64), vec![64, 65]].concat();
+        assert_eq!(ask(Planted::Nothing), bytes(right), "{cells} A");
+        assert_eq!(ask(planted), bytes(error), "{cells} A");
+    };
+    let (seven, eight) = (part(7, &[36]), part(8, &[]));
+    shows(Planted::HyphenOnWhole, 8, &[&eight], &[&seven, &[1]]);
+    shows(Planted::HyphenOnWhole, 15, &[&seven, &eight], &[&seven, &seven, &[1]]);
+    shows(Planted::HyphenOverWidth, 9, &[&seven, &[1, 1]], &[&part(8, &[36]), &[1]]);
+    shows(Planted::HyphenOnRest, 9, &[&seven, &[1, 1]], &[&seven, &[1, 1, 36]]);
+    shows(Planted::HyphenOnRest, 15, &[&seven, &eight], &[&seven, &part(8, &[36])]);
+    for planted in [Planted::HyphenOnWhole, Planted::HyphenOverWidth, Planted::HyphenOnRest] {
+        shows(planted, 7, &[&part(7, &[])], &[&part(7, &[])]);
+    }
 }
 
 /// Request 3 of document 02: BLIND by what follows it.

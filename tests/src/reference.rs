@@ -55,6 +55,12 @@ pub enum Planted {
     FollowingInside,
     /// Request 3: 15 before 7.
     FollowingBeforeText,
+    /// Request 2: a hyphen on a word of exactly W, so that one cell of it is left for the next line.
+    HyphenOnWhole,
+    /// Request 2: W cells and a hyphen.
+    HyphenOverWidth,
+    /// Request 2: the rest with a hyphen.
+    HyphenOnRest,
 }
 
 /// A refusal: its number and its place.
@@ -65,6 +71,7 @@ const LINE_FEED: u8 = 10;
 const BAR: u8 = 124;
 const PERIOD: u8 = 46;
 const NO_CELL: u8 = 99;
+const HYPHEN: u8 = 36;
 const TRAILER: usize = 14;
 const LONGEST_TEXT: usize = 16_384;
 
@@ -649,7 +656,7 @@ enum Item {
     Format(u8),
 }
 
-fn items(signs: &[u8], w: usize, notes: &mut Notes) -> Vec<Item> {
+fn items(planted: Planted, signs: &[u8], w: usize, notes: &mut Notes) -> Vec<Item> {
     let mut items = vec![];
     let mut word = vec![];
     for &sign in signs {
@@ -658,7 +665,7 @@ fn items(signs: &[u8], w: usize, notes: &mut Notes) -> Vec<Item> {
             NO_CELL => (),
             // Signs 0 and 64 end a word, as do 70..73; a run of blanks is one gap.
             _ => {
-                end_word(&mut word, w, &mut items, notes);
+                end_word(planted, &mut word, w, &mut items, notes);
                 match sign {
                     0 => notes.note(Event::Sign0),
                     64 => notes.note(Event::Sign64),
@@ -667,17 +674,62 @@ fn items(signs: &[u8], w: usize, notes: &mut Notes) -> Vec<Item> {
             }
         }
     }
-    end_word(&mut word, w, &mut items, notes);
+    end_word(planted, &mut word, w, &mut items, notes);
     items
 }
 
-/// A word wider than W is cut into parts of exactly W cells and a rest, if cells remain; parts count as words.
-fn end_word(word: &mut Vec<u8>, w: usize, items: &mut Vec<Item>, notes: &mut Notes) {
-    if word.len() > w {
-        notes.note(if word.len() % w == 0 { Event::WordCutEven } else { Event::WordCut });
+/// The word that ends here, if there is one: whole, or in parts, which count as words.
+fn end_word(planted: Planted, word: &mut Vec<u8>, w: usize, items: &mut Vec<Item>, notes: &mut Notes) {
+    if word.is_empty() {
+        return;
     }
-    items.extend(word.chunks(w).map(|part| Item::Word(part.to_vec())));
+    let parts = cut(planted, word, w);
+    note_word(word, &parts, w, items, notes);
+    items.extend(parts.into_iter().map(Item::Word));
     word.clear();
+}
+
+/// While more than W cells of a word remain, a part is W-1 cells and then cell 36; the rest, at most
+/// W, has none.
+fn cut(planted: Planted, word: &[u8], w: usize) -> Vec<Vec<u8>> {
+    let most = if planted == Planted::HyphenOnWhole { w - 1 } else { w };
+    let before_the_hyphen = if planted == Planted::HyphenOverWidth { w } else { w - 1 };
+    let mut parts = vec![];
+    let mut remaining = word;
+    while remaining.len() > most {
+        let (front, rest) = remaining.split_at(before_the_hyphen);
+        parts.push([front, &[HYPHEN]].concat());
+        remaining = rest;
+    }
+    let mut rest = remaining.to_vec();
+    if !parts.is_empty() && planted == Planted::HyphenOnRest {
+        rest.push(HYPHEN);
+    }
+    parts.push(rest);
+    parts
+}
+
+/// Notes of a word and its parts what is met where a word is cut; `items` are those before it.
+fn note_word(word: &[u8], parts: &[Vec<u8>], w: usize, items: &[Item], notes: &mut Notes) {
+    let mut formats = items.iter().rev().map_while(|item| match item {
+        Item::Format(sign) => Some(*sign),
+        Item::Word(_) => None,
+    });
+    let (rest, cut) = (parts[parts.len() - 1].len(), parts.len() > 1);
+    let events = [
+        (Event::WordOneUnder, word.len() == w - 1),
+        (Event::WordWhole, word.len() == w),
+        (Event::WordCutInTwo, parts.len() == 2),
+        (Event::WordCutInMore, parts.len() > 2),
+        (Event::RestOf2, cut && rest == 2),
+        (Event::RestOfW, cut && rest == w),
+        (Event::CutOpensParagraph, cut && formats.any(|sign| sign == 72)),
+        (Event::HyphenAfter36, parts.iter().any(|part| part.ends_with(&[HYPHEN, HYPHEN]))),
+        (Event::RestEndsIn36, cut && word.ends_with(&[HYPHEN])),
+    ];
+    for (event, _) in events.iter().filter(|(_, met)| *met) {
+        notes.note(*event);
+    }
 }
 
 /// The place on the page, and the bytes so far: cells, 64 after each line, 65 after each page's last line.
@@ -695,7 +747,7 @@ struct Page<'a> {
 
 /// The output bytes of a text's signs.
 fn lay_out(planted: Planted, signs: &[u8], w: usize, p: usize, notes: &mut Notes) -> Vec<u8> {
-    let items = items(signs, w, notes);
+    let items = items(planted, signs, w, notes);
     let mut page = Page { w, p, line: vec![], lines_on_page: 0, paragraph: false, bytes: vec![], notes };
     for item in items {
         match item {

@@ -1,7 +1,7 @@
 // The paper's run cases: what the whole call answers at its limits, for refusals 1 to 8 and 15 with
-// their places, where two refusals hold at once, and by what follows the text. Each case prints its
-// answer in the form of `brailleout`. Some go on with the cells and pages; the others say whether
-// the bytes lent are as they were.
+// their places, where two refusals hold at once, for words that are cut, and by what follows the
+// text. Each case prints its answer in the form of `brailleout`. Some go on with the cells and
+// pages; the others say whether the bytes lent are as they were.
 use libc::STDOUT_FILENO;
 use pages::Sheet;
 use translation::Setting;
@@ -57,10 +57,25 @@ fn answered(image: &[u8], text: &[u8], sheet: Sheet) {
     tell(follows(b' '), image, text, sheet, &mut out);
 }
 
-// Words and paragraphs: nine A (lines of 8 and 1); `$P` with seven A (column 0); seven A and one
-// more (a word joined would be too long); the empty text.
-fn words(image: &[u8]) {
+// Words that are cut, or just aren't: nine A (seven and the hyphen, then two); eight A (whole);
+// fifteen A (seven and the hyphen, then eight); sixteen A (twice seven and the hyphen, then two);
+// `$P` with nine A (column 0, since the first part has eight cells).
+fn cut_words(image: &[u8]) {
     show(follows(b' '), image, &[65; 9], sheet(8, 2));
+    show(follows(b' '), image, &[65; 8], sheet(8, 2));
+    show(follows(b' '), image, &[65; 15], sheet(8, 2));
+    show(follows(b' '), image, &[65; 16], sheet(8, 2));
+    show(
+        follows(b' '),
+        image,
+        &[b'$', b'P', 65, 65, 65, 65, 65, 65, 65, 65, 65],
+        sheet(8, 2),
+    );
+}
+
+// Words and paragraphs: `$P` with seven A (column 0); seven A and one more (a word joined would be
+// too long); the empty text.
+fn words(image: &[u8]) {
     show(
         follows(b' '),
         image,
@@ -127,6 +142,7 @@ fn sections(image: &[u8]) {
 }
 
 fn all(image: &[u8]) {
+    cut_words(image);
     words(image);
     sizes(image);
     long_texts(image);

@@ -1,11 +1,12 @@
 -- Demands 2 and 3 of a text and an accepted table: the laws of the layers, put together. Everything is over the words and format signs that the pieces
 -- of the text yield, for every W and P within the limits and every symbol that follows.
-use Prim.Native.Nat.{ℕ, _<_}
+use Prim.Native.Nat.{ℕ, _<_, _≤_}
 use mathlib.Core.Bool.{Bool}
 use mathlib.Core.List.{List, map, flatten}
 use mathlib.Core.Path.{_≡_, subst, _∙_}
 use native.Mathlib.Omega.{arith}
-use lib.ListN.{length}
+use lib.ListN.{length, getD}
+use Rattle.table.specs.Printed.{PrintedSign}
 use Rattle.table.specs.Refusals.{Between}
 use Rattle.table.specs.Table.{tableOf}
 use Rattle.table.specs.Verdict.{verdictOf}
@@ -20,6 +21,7 @@ use Rattle.translation.proofs.Signs.{signs-printed}
 use Rattle.pages.specs.Numbers.{leastWidth, mostWidth, leastLength, mostLength, lineMark, pageMark}
 use Rattle.pages.specs.Lists.{only}
 use Rattle.pages.specs.Words.{Item, itemsOf}
+use Rattle.pages.specs.Parts.{Sized, bare, cutsOf}
 use Rattle.pages.specs.Place.{volume}
 use Rattle.pages.specs.Pages.{pagesOf, bytesOfPages}
 use Rattle.table.specs.Search.{count}
@@ -36,7 +38,7 @@ use Rattle.pages.proofs.NoLater as NoLater-laws
 use Rattle.pages.proofs.Counts.{lines-are-64s, pages-are-65s}
 use Rattle.pages.proofs.Words.{items-fit}
 use Rattle.pages.proofs.Volume as Volume-laws
-use Rattle.pages.proofs.Signs.{volume-has-the-signs}
+use Rattle.pages.proofs.Signs.{volume-has-the-parts, signs-cut-sized, parts-are-the-signs}
 use Rattle.pages.proofs.Drawn.{bytes-show-the-layout, choices-are-the-bytes}
 use Rattle.pages.proofs.Ended.{volume-sizes-counted}
 use Rattle.pages.specs.declared.Sheet.{Sheet}
@@ -57,10 +59,16 @@ module _ (setting : Setting) (image text : List ℕ) (sheet : Sheet) (width : Be
   unfolding piecesOf
   text-consumed = consumed (tableOf image) setting (accepted-sound image accepted) (collapsed text)
 
+  signs-are-printed : (i : ℕ) → i < length signs → PrintedSign (getD signs i 0)
+  unfolding piecesOf
+  signs-are-printed = signs-printed (tableOf image) (accepted-sound image accepted) setting (collapsed text)
+
+  cuttable : 2 ≤ sheet .width
+  cuttable = let w = width .low in omega arith
+
   -- the words have a cell and at most W, and their cells are 1 to 63
   text-fits : Fitting (sheet .width) items
-  unfolding piecesOf
-  text-fits = items-fit (let w = width .low in omega arith) signs (signs-printed (tableOf image) (accepted-sound image accepted) setting (collapsed text))
+  text-fits = items-fit cuttable signs signs-are-printed
 
   page-room : 0 < sheet .length
   page-room = let p = page-length .low in omega arith
@@ -85,11 +93,19 @@ module _ (setting : Setting) (image text : List ℕ) (sheet : Sheet) (width : Be
   unfolding bytesOfSigns
   text-pages-counted = Volume-laws.pages-counted sheet items text-fits page-room
 
-  -- the cells of the pages that aren't blank are, in order, the signs 1 to 63
-  pub text-has-the-signs : only isDotted (flatten (flatten (pagesOf (bytesOf (tableOf image) setting text sheet)))) ≡ only isDotted signs
-  unfolding bytesOfSigns piecesOf
-  text-has-the-signs =
-      volume-has-the-signs sheet signs (signs-printed (tableOf image) (accepted-sound image accepted) setting (collapsed text)) (let w = width .low in omega arith) page-room
+  -- the cells of the pages that aren't blank are, in order, the parts of the words
+  pub text-has-the-parts :
+      only isDotted (flatten (flatten (pagesOf (bytesOf (tableOf image) setting text sheet)))) ≡ flatten (flatten (cutsOf (sheet .width) signs))
+  unfolding bytesOfSigns
+  text-has-the-parts = volume-has-the-parts sheet signs signs-are-printed cuttable page-room
+
+  -- each part of a word but the last has W cells, the hyphen the last of them, and the last has 1 to W
+  pub text-parts-sized : All (Sized (sheet .width)) (cutsOf (sheet .width) signs)
+  text-parts-sized = signs-cut-sized sheet signs signs-are-printed cuttable
+
+  -- without these hyphens they are, in order, the signs 1 to 63
+  pub text-has-the-signs : flatten (flatten (map bare (cutsOf (sheet .width) signs))) ≡ only isDotted signs
+  text-has-the-signs = parts-are-the-signs sheet signs signs-are-printed cuttable
 
   -- ---- Demand 3
 

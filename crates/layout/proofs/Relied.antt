@@ -200,7 +200,9 @@ module _ (setting : Setting) (image text : List ℕ) (sheet : Sheet) (before : L
           bytes = subst (λ (b : List ℕ). bytesOfPages (pagesOf b) ≡ b) (sym wrote-bytes) (Demands-laws.text-pages-bytes setting image text sheet (sizes .0) (sizes .1) table-accepted);
           lines = ap (λ (b : List ℕ). length (flatten (pagesOf b))) wrote-bytes ∙ (Demands-laws.text-lines-counted setting image text sheet (sizes .0) (sizes .1) table-accepted) ∙ sym (ap lines is-answer);
           pages = ap (λ (b : List ℕ). length (pagesOf b)) wrote-bytes ∙ (Demands-laws.text-pages-counted setting image text sheet (sizes .0) (sizes .1) table-accepted) ∙ sym (ap pages is-answer);
-          signs = ap (λ (b : List ℕ). only isDotted (flatten (flatten (pagesOf b)))) wrote-bytes ∙ (Demands-laws.text-has-the-signs setting image text sheet (sizes .0) (sizes .1) table-accepted);
+          cells = ap (λ (b : List ℕ). only isDotted (flatten (flatten (pagesOf b)))) wrote-bytes ∙ (Demands-laws.text-has-the-parts setting image text sheet (sizes .0) (sizes .1) table-accepted);
+          parts = Demands-laws.text-parts-sized setting image text sheet (sizes .0) (sizes .1) table-accepted;
+          signs = Demands-laws.text-has-the-signs setting image text sheet (sizes .0) (sizes .1) table-accepted;
         }
 
     -- ---- Demand 3

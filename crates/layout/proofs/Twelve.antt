@@ -84,7 +84,7 @@ unfolding computing row shown lent embossed expected twelve
 twelve-embossed = refl
 
 -- ---- Corners: bars before blanks; a line feed at the end is a character; 99 ends no word; 71 where ending the line fills the page; 72 through 73,
--- spent on the first part, twice in a row; a word of exactly two lines; a paragraph too wide for its blanks; the end of a page by its lines
+-- twice in a row; a paragraph too wide for its blanks; the end of a page by its lines
 
 corners : List Row
 corners =
@@ -94,9 +94,7 @@ corners =
     ∷ row "A$B" (1 ∷ 3 ∷ 64 ∷ 65 ∷ []) 3 1 1
     ∷ row "A$LB$SC" (1 ∷ 64 ∷ 3 ∷ 64 ∷ 65 ∷ 9 ∷ 64 ∷ 65 ∷ []) 5 3 2
     ∷ row "$P$NAAAAAA" (0 ∷ 0 ∷ 1 ∷ 1 ∷ 1 ∷ 1 ∷ 1 ∷ 1 ∷ 64 ∷ 65 ∷ []) 8 1 1
-    ∷ row "$PAAAAAAAAA" (1 ∷ 1 ∷ 1 ∷ 1 ∷ 1 ∷ 1 ∷ 1 ∷ 1 ∷ 64 ∷ 1 ∷ 64 ∷ 65 ∷ []) 10 2 1
     ∷ row "A$P$PA" (1 ∷ 64 ∷ 0 ∷ 0 ∷ 1 ∷ 64 ∷ 65 ∷ []) 4 2 1
-    ∷ row "AAAAAAAAAAAAAAAA" (1 ∷ 1 ∷ 1 ∷ 1 ∷ 1 ∷ 1 ∷ 1 ∷ 1 ∷ 64 ∷ 1 ∷ 1 ∷ 1 ∷ 1 ∷ 1 ∷ 1 ∷ 1 ∷ 1 ∷ 64 ∷ 65 ∷ []) 16 2 1
     ∷ row "$PAAAAAAA" (1 ∷ 1 ∷ 1 ∷ 1 ∷ 1 ∷ 1 ∷ 1 ∷ 64 ∷ 65 ∷ []) 8 1 1
     ∷ row "A$L$S$NA" (1 ∷ 64 ∷ 64 ∷ 65 ∷ 1 ∷ 64 ∷ 65 ∷ []) 5 3 2
     ∷ row "A A A A A A" (1 ∷ 0 ∷ 1 ∷ 0 ∷ 1 ∷ 0 ∷ 1 ∷ 64 ∷ 1 ∷ 0 ∷ 1 ∷ 64 ∷ 65 ∷ []) 11 2 1 ∷ []
@@ -104,6 +102,26 @@ corners =
 corners-embossed : map embossed corners ≡ map expected corners
 unfolding computing row shown lent embossed expected corners
 corners-embossed = refl
+
+-- ---- Request 2, cut words carry a hyphen: nine A, eight, fifteen, sixteen; `$P` and nine, where the first part has W cells, so it starts in column 0; a word
+-- of W cells that ends in a hyphen of its own, which is whole, and one whose own hyphen stands before the one that cutting put there
+
+seven : List ℕ
+seven = 1 ∷ 1 ∷ 1 ∷ 1 ∷ 1 ∷ 1 ∷ 1 ∷ []
+
+cut-words : List Row
+cut-words =
+    row "AAAAAAAAA" (seven ++ 36 ∷ 64 ∷ 1 ∷ 1 ∷ 64 ∷ 65 ∷ []) 9 2 1
+    ∷ row "AAAAAAAA" (seven ++ 1 ∷ 64 ∷ 65 ∷ []) 8 1 1
+    ∷ row "AAAAAAAAAAAAAAA" (seven ++ 36 ∷ 64 ∷ seven ++ 1 ∷ 64 ∷ 65 ∷ []) 15 2 1
+    ∷ row "AAAAAAAAAAAAAAAA" (seven ++ 36 ∷ 64 ∷ seven ++ 36 ∷ 64 ∷ 65 ∷ 1 ∷ 1 ∷ 64 ∷ 65 ∷ []) 16 3 2
+    ∷ row "$PAAAAAAAAA" (seven ++ 36 ∷ 64 ∷ 1 ∷ 1 ∷ 64 ∷ 65 ∷ []) 10 2 1
+    ∷ row "AAAAAAA-" (seven ++ 36 ∷ 64 ∷ 65 ∷ []) 8 1 1
+    ∷ row "AAAAAA-AA" (1 ∷ 1 ∷ 1 ∷ 1 ∷ 1 ∷ 1 ∷ 36 ∷ 36 ∷ 64 ∷ 1 ∷ 1 ∷ 64 ∷ 65 ∷ []) 9 2 1 ∷ []
+
+cut-words-embossed : map embossed cut-words ≡ map expected cut-words
+unfolding computing row shown lent embossed expected seven cut-words
+cut-words-embossed = refl
 
 -- ---- Sections: BLIND followed by a blank, by `.`, by E, by `a`: contracted, contracted, the five letters, and refused with 15
 

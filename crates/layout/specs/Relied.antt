@@ -18,6 +18,7 @@ use Rattle.translation.specs.declared.Setting.{Setting}
 use Rattle.pages.specs.Numbers.{leastWidth, mostWidth, leastLength, mostLength}
 use Rattle.pages.specs.Lists.{only}
 use Rattle.pages.specs.Words.{Item, itemsOf}
+use Rattle.pages.specs.Parts.{Sized, bare, cutsOf}
 use Rattle.pages.specs.Pages.{pagesOf, bytesOfPages}
 use Rattle.pages.specs.Permitted.{Layout, Permitted}
 use Rattle.pages.specs.Spots.{NoLater}
@@ -39,6 +40,10 @@ textPieces setting image text = piecesOf (tableOf image) setting text
 
 abbrev pub textItems : Setting → List ℕ → List ℕ → Sheet → List Item
 textItems setting image text sheet = itemsOf (sheet .width) (signsOf (textPieces setting image text))
+
+-- its words, each as its parts
+abbrev pub textCuts : Setting → List ℕ → List ℕ → Sheet → List (List (List ℕ))
+textCuts setting image text sheet = cutsOf (sheet .width) (signsOf (textPieces setting image text))
 
 -- demand 1: the call changed no byte, and has nothing to count
 pub record Untouched (before : List ℕ) (answer : Answer) (after : List ℕ) : Type 0 where
@@ -75,14 +80,18 @@ pub record Translates (setting : Setting) (image text : List ℕ) (answer : Answ
       → piece (textPieces setting image text) (suc i) .states
       ≡ moved (tableOf image) (piece (textPieces setting image text) i .class) (piece (textPieces setting image text) i .states)
 
--- demand 2: the written bytes are those of the rules, and read back as pages they keep every rule of lines and pages
+-- demand 2: the written bytes are those of the rules, and read back as pages they keep every rule of lines and pages. The cells that aren't blank are, in
+-- order, the parts of the words that the signs make: each part of a word but the last has W cells, of which the hyphen is the last. Without these hyphens they
+-- are the signs 1 to 63
 pub record LaysOut (setting : Setting) (image text : List ℕ) (sheet : Sheet) (answer : Answer) (after : List ℕ) : Type 0 where
   pub exact : wrote answer after ≡ bytesOf (tableOf image) setting text sheet
   pub right : All (PageRight sheet) (pagesOf (wrote answer after))
   pub bytes : bytesOfPages (pagesOf (wrote answer after)) ≡ wrote answer after
   pub lines : length (flatten (pagesOf (wrote answer after))) ≡ lines answer
   pub pages : length (pagesOf (wrote answer after)) ≡ pages answer
-  pub signs : only isDotted (flatten (flatten (pagesOf (wrote answer after)))) ≡ only isDotted (signsOf (textPieces setting image text))
+  pub cells : only isDotted (flatten (flatten (pagesOf (wrote answer after)))) ≡ flatten (flatten (textCuts setting image text sheet))
+  pub parts : All (Sized (sheet .width)) (textCuts setting image text sheet)
+  pub signs : flatten (flatten (map bare (textCuts setting image text sheet))) ≡ only isDotted (signsOf (textPieces setting image text))
 
 -- demand 3: the layout that the written bytes show, page by page, is permitted; no permitted layout has a word earlier, fewer lines or fewer pages
 pub record Earliest (setting : Setting) (image text : List ℕ) (sheet : Sheet) (answer : Answer) (after : List ℕ) : Type 0 where

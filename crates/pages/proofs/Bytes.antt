@@ -11,13 +11,13 @@ use native.Mathlib.Decide.{decLe}
 use native.Mathlib.Omega.{arith}
 use lib.Dec.{ltb, eqb}
 use lib.ListN.{length, replicate, length-append, length-replicate, replicate-append-replicate}
-use borrow.Author.Tests.{eq-eqb, ne-eqb, ltb-true, ltb-false}
+use borrow.Author.Tests.{eq-eqb, ne-eqb, ltb-true, ltb-false, eqb-true}
 use lib.Seq.{sets}
 use Rattle.table.specs.Numbers.{blankCell}
 use Rattle.table.specs.inside.Wrote.{Wrote}
 use Rattle.table.proofs.Wrote.{put-then}
 use Rattle.pages.specs.Numbers.{gapBlanks, lineMark, pageMark}
-use Rattle.pages.specs.Words.{Item, word, lineEnd, emptyLine, paragraph, pageEnd, formatOf}
+use Rattle.pages.specs.Words.{Item, word, lineEnd, emptyLine, paragraph, pageEnd, formatOf, partOf}
 use Rattle.pages.specs.Place.{holdsCell, hasLine, fillsPage, afterLine, afterLineEnd, afterEmptyLine, afterParagraph, afterPage, afterPageEnd, openingBlanks, joins, afterCells, afterWord, afterItem, marks, standing, cellsAfter, moveBytes, cellsIn}
 use Rattle.pages.specs.inside.Gather.{afterFlush, afterFormat, stepped, stepBytes}
 use Rattle.pages.specs.Signs.{endsWord}
@@ -26,6 +26,7 @@ use Rattle.pages.specs.declared.Place.{Place}
 use Rattle.pages.specs.declared.Sheet.{Sheet}
 use Rattle.pages.proofs.Moves as Moves
 use Rattle.pages.proofs.Formats.{nil-cells}
+use Rattle.pages.proofs.Words.{part-length}
 
 -- ---- The laws of `moveBytes`
 
@@ -386,12 +387,12 @@ move-written p q cells {l} {m₁} {m₂} {m₃} {m₄} {lined} {paged} {blanks} 
           (append-assoc (lines ++ pages) gap cells ∙ ap (λ (j : ℕ). (lines ++ pages) ++ (replicate j blankCell ++ cells)) k);
     }
 
-pub written-step : (sheet : Sheet) (p : Place) (cells : List ℕ) (g : ℕ)
+pub written-step : (sheet : Sheet) → 1 ≤ sheet .width → (p : Place) (cells : List ℕ) (g : ℕ)
     → stepped sheet p (length cells) g .place .written ≡ p .written + length (stepBytes sheet p cells g)
 unfolding stepped stepBytes
-written-step sheet p cells g = go (endsWord g) (eqb (length cells + 1) (sheet .width)) refl refl
+written-step sheet wide p cells g = go (endsWord g) (eqb (length cells) (sheet .width)) refl refl
   where
-    go : (b full : Bool) → endsWord g ≡ b → eqb (length cells + 1) (sheet .width) ≡ full
+    go : (b full : Bool) → endsWord g ≡ b → eqb (length cells) (sheet .width) ≡ full
         → stepped sheet p (length cells) g .place .written ≡ p .written + length (stepBytes sheet p cells g)
     go true full x z =
         let q : Place = afterFlush sheet p (length cells) in
@@ -400,7 +401,9 @@ written-step sheet p cells g = go (endsWord g) (eqb (length cells + 1) (sheet .w
         let n = length-append (moveBytes p q cells) (moveBytes q (afterFormat sheet q g) []) in
         rw x (omega arith)
     go false true x z =
-        let l : length (cells ++ g ∷ []) ≡ length cells + 1 = length-append cells (g ∷ []) in
-        let e = written-move (cells ++ g ∷ []) (goes-word sheet p (length (cells ++ g ∷ []))) in
+        let w = eqb-true (length cells) (sheet .width) z in
+        let part : List ℕ = partOf (sheet .width) cells in
+        let l : length part ≡ sheet .width = part-length (sheet .width) cells wide (omega arith) in
+        let e = written-move part (goes-word sheet p (length part)) in
         rw (x, z) (ap (λ (k : ℕ). afterWord sheet p k .written) (sym l) ∙ e)
     go false false x z = rw (x, z) (omega arith)

@@ -1,75 +1,32 @@
 -- Sign by sign is word by word: what the items of the signs do to a place and write, from a word that is being gathered on, is what one sign does and
--- writes, and then what the rest does. A word is placed as soon as it has W cells, since its parts are cut off in fulls of W.
-use Prim.Native.Nat.{ℕ, zero, suc, _+_, _≤_, _<_}
+-- writes, and then what the rest does. The first part of a word is placed as soon as it is known to have more than W cells.
+use Prim.Native.Nat.{ℕ, suc, _+_, _-_, _≤_, _<_}
 use mathlib.Core.Bool.{Bool, true, false}
 use mathlib.Core.List.{List, [], _∷_, _++_, append-assoc, append-nil}
 use mathlib.Core.Option.{Option, none, some}
-use mathlib.Core.Path.{_≡_, refl, sym, _∙_, ap}
-use native.Mathlib.Decide.{decLe}
+use mathlib.Core.Path.{_≡_, refl, sym, _∙_, ap, subst}
 use native.Mathlib.Numerals.{add-one}
 use native.Mathlib.Omega.{arith}
 use lib.Dec.{ltb, eqb}
-use lib.ListN.{length, getD, take, drop, length-append, length-drop}
-use lib.Seq.{take-at, drop-at, drop-cons}
-use borrow.Author.Tests.{le-leb, lt-leb, lt-ltb, eqb-true, eqb-false}
+use lib.ListN.{length, getD, drop, length-append, length-drop}
+use lib.Seq.{drop-cons}
+use borrow.Author.Tests.{lt-ltb, eqb-true, eqb-false}
 use Rattle.table.specs.Numbers.{blankCell, signPageEnd}
 use Rattle.pages.specs.Numbers.{mostWidth}
-use Rattle.pages.specs.Words.{Item, word, lineEnd, emptyLine, paragraph, pageEnd, formatOf, closed, gathered, cutWithin, parts, cutItem, cut}
+use Rattle.pages.specs.Words.{Item, word, lineEnd, emptyLine, paragraph, pageEnd, formatOf, closed, gathered, partOf, cutItem, cut}
 use Rattle.pages.specs.Place.{afterWord, afterItem, moveBytes, cellsIn, itemBytes, afterItems, itemsBytes, ended}
 use Rattle.pages.specs.Signs.{endsWord}
-use Rattle.pages.specs.inside.Gather.{Modest, afterFlush, flushBytes, afterFormat, formatBytes, wordBytes, stepped, waiting, stepBytes, afterRest, restBytes}
+use Rattle.pages.specs.inside.Gather.{Modest, afterFlush, flushBytes, afterFormat, formatBytes, wordBytes, cellsHeld, stepped, waiting, stepBytes, afterRest, restBytes}
 use Rattle.pages.specs.declared.Place.{Place}
 use Rattle.pages.proofs.Formats.{format-no-word, nil-cells, blank-no-format}
+use Rattle.pages.proofs.Gathered.{closed-word}
+use Rattle.pages.proofs.Words.{part-length}
+use Rattle.pages.proofs.Parts.{one-part, full-part}
 use Rattle.pages.proofs.Bytes.{stays-bytes}
 use Rattle.pages.proofs.Moves.{modest-more, modest-word, modest-line-end, modest-empty-line, modest-paragraph, modest-page-end}
 use Rattle.pages.specs.declared.Sheet.{Sheet}
 
-module _ (W : ℕ) (wide : 1 ≤ W) where
-  -- ---- Cutting
-
-  cut-short : (n : ℕ) (cells : List ℕ) → length cells ≤ W → cutWithin (suc n) W cells ≡ cells ∷ []
-  unfolding cutWithin
-  cut-short n cells h = rw (le-leb (length cells) W h, cutWithin)
-
-  cut-long : (n : ℕ) (cells : List ℕ) → W < length cells → cutWithin (suc n) W cells ≡ take W cells ∷ cutWithin n W (drop W cells)
-  unfolding cutWithin
-  cut-long n cells h = rw (lt-leb (length cells) W h, cutWithin)
-
-  -- as many cuts as there are cells are enough, and more change nothing
-  cut-enough : (n m : ℕ) (cells : List ℕ) → length cells ≤ n → length cells ≤ m → cutWithin n W cells ≡ cutWithin m W cells
-  cut-enough zero zero cells h k = refl
-  cut-enough zero (suc m) cells h k = unfold cutWithin in sym (cut-short m cells (omega arith))
-  cut-enough (suc n) zero cells h k = unfold cutWithin in cut-short n cells (omega arith)
-  cut-enough (suc n) (suc m) cells h k = go (decLe (length cells) W) (cut-enough n m (drop W cells))
-    where
-      go : Dec (length cells ≤ W)
-          → (length (drop W cells) ≤ n → length (drop W cells) ≤ m → cutWithin n W (drop W cells) ≡ cutWithin m W (drop W cells))
-          → cutWithin (suc n) W cells ≡ cutWithin (suc m) W cells
-      go (yes short) less = cut-short n cells short ∙ sym (cut-short m cells short)
-      go (no d) less =
-          let e = length-drop W cells in
-          let long : W < length cells = omega arith in
-          cut-long n cells long ∙ ap (λ (r : List (List ℕ)). take W cells ∷ r) (less (omega arith) (omega arith)) ∙ sym (cut-long m cells long)
-
-  -- a word of at most W cells is one part
-  one-part : (cells : List ℕ) → length cells ≤ W → parts W cells ≡ cells ∷ []
-  unfolding parts
-  one-part cells h = cut-enough (length cells) (suc (length cells)) cells (omega arith) (omega arith) ∙ cut-short (length cells) cells h
-
-  -- W cells and some more are a part of W, and the parts of the others
-  full-part : (cells more : List ℕ) → length cells ≡ W → 1 ≤ length more → parts W (cells ++ more) ≡ cells ∷ parts W more
-  unfolding parts
-  full-part cells more e h =
-      let l = length-append cells more in
-      let d : drop W (cells ++ more) ≡ more = drop-at cells more W e in
-      let t : take W (cells ++ more) ≡ cells = take-at cells more W e in
-      let n : ℕ = length (cells ++ more) in
-      cut-enough n (suc n) (cells ++ more) (omega arith) (omega arith)
-      ∙ cut-long n (cells ++ more) (omega arith)
-      ∙ rw (t, d) (ap (λ (r : List (List ℕ)). cells ∷ r) (cut-enough n (length more) more (omega arith) (omega arith)))
-
-  -- ---- Items
-
+module _ (W : ℕ) (wide : 2 ≤ W) where
   cut-append : (xs ys : List Item) → cut W (xs ++ ys) ≡ cut W xs ++ cut W ys
   unfolding cut
   cut-append [] ys = refl
@@ -78,33 +35,39 @@ module _ (W : ℕ) (wide : 1 ≤ W) where
   cut-closed : (cells : List ℕ) → length cells ≤ W → cut W (closed cells) ≡ closed cells
   unfolding cut cutItem closed
   cut-closed [] h = refl
-  cut-closed (c ∷ cells) h = rw (one-part (c ∷ cells) h)
+  cut-closed (c ∷ cells) h = rw (one-part W wide (c ∷ cells) h)
 
-  cut-closed-full : (cells more : List ℕ) → length cells ≡ W → cut W (closed (cells ++ more)) ≡ word cells ∷ cut W (closed more)
-  unfolding cut cutItem closed
-  cut-closed-full [] more e = absurd (omega arith)
-  cut-closed-full (c ∷ cells) [] e = rw (append-nil (c ∷ cells), one-part (c ∷ cells) (omega arith))
-  cut-closed-full (c ∷ cells) (d ∷ more) e = rw (full-part (c ∷ cells) (d ∷ more) e (omega arith))
+  cut-closed-full : (cells more : List ℕ) (items : List Item) → length cells ≡ W → 1 ≤ length more
+      → cut W (closed (cells ++ more) ++ items) ≡ word (partOf W cells) ∷ cut W (closed (drop (W - 1) cells ++ more) ++ items)
+  unfolding cut cutItem
+  cut-closed-full cells more items e h =
+      let l = length-append cells more in
+      let k = length-append (drop (W - 1) cells) more in
+      rw (
+        closed-word (cells ++ more) items (omega arith),
+        closed-word (drop (W - 1) cells ++ more) items (omega arith),
+        full-part W wide cells more e h,
+      )
 
-  -- W cells that are gathered are a word of their own
-  gathered-full : (cells more signs : List ℕ) → length cells ≡ W → cut W (gathered (cells ++ more) signs) ≡ word cells ∷ cut W (gathered more signs)
+  -- W cells that are gathered, with one more at least, have their first part placed
+  gathered-full : (cells more signs : List ℕ) → length cells ≡ W → 1 ≤ length more
+      → cut W (gathered (cells ++ more) signs) ≡ word (partOf W cells) ∷ cut W (gathered (drop (W - 1) cells ++ more) signs)
   unfolding gathered
-  gathered-full cells more [] e = cut-closed-full cells more e
-  gathered-full cells more (g ∷ signs) e = go (eqb g blankCell) (formatOf g) refl refl (gathered-full cells (more ++ g ∷ []) signs e)
+  gathered-full cells more [] e h =
+      rw (append-nil (closed (cells ++ more)), append-nil (closed (drop (W - 1) cells ++ more))) at (cut-closed-full cells more [] e h)
+  gathered-full cells more (g ∷ signs) e h =
+      let l = length-append more (g ∷ []) in
+      go (eqb g blankCell) (formatOf g) refl refl (gathered-full cells (more ++ g ∷ []) signs e (omega arith))
     where
-      parted : (items : List Item) → cut W (closed (cells ++ more) ++ items) ≡ word cells ∷ cut W (closed more ++ items)
-      parted items =
-          cut-append (closed (cells ++ more)) items ∙ ap (λ (r : List Item). r ++ cut W items) (cut-closed-full cells more e)
-          ∙ ap (λ (r : List Item). word cells ∷ r) (sym (cut-append (closed more) items))
-
       go : (b : Bool) (f : Option Item) → eqb g blankCell ≡ b → formatOf g ≡ f
-          → cut W (gathered (cells ++ (more ++ g ∷ [])) signs) ≡ word cells ∷ cut W (gathered (more ++ g ∷ []) signs)
-          → cut W (gathered (cells ++ more) (g ∷ signs)) ≡ word cells ∷ cut W (gathered more (g ∷ signs))
-      go true f x y later = rw (x, gathered) (parted (gathered [] signs))
-      go false none x y later = rw (x, gathered, y, append-assoc cells more (g ∷ [])) later
-      go false (some format) x y later = rw (x, gathered, y) (parted (format ∷ gathered [] signs))
+          → cut W (gathered (cells ++ (more ++ g ∷ [])) signs) ≡ word (partOf W cells) ∷ cut W (gathered (drop (W - 1) cells ++ (more ++ g ∷ [])) signs)
+          → cut W (gathered (cells ++ more) (g ∷ signs)) ≡ word (partOf W cells) ∷ cut W (gathered (drop (W - 1) cells ++ more) (g ∷ signs))
+      go true f x y later = rw (x, gathered) (cut-closed-full cells more (gathered [] signs) e h)
+      go false none x y later =
+          rw (x, gathered, y, append-assoc cells more (g ∷ []), append-assoc (drop (W - 1) cells) more (g ∷ [])) later
+      go false (some format) x y later = rw (x, gathered, y) (cut-closed-full cells more (format ∷ gathered [] signs) e h)
 
-module _ (sheet : Sheet) (wide : 1 ≤ sheet .width) where
+module _ (sheet : Sheet) (wide : 2 ≤ sheet .width) where
   -- ---- What the items do, list after list
 
   after-append : (p : Place) (xs ys : List Item) → afterItems sheet p (xs ++ ys) ≡ afterItems sheet (afterItems sheet p xs) ys
@@ -164,14 +127,19 @@ module _ (sheet : Sheet) (wide : 1 ≤ sheet .width) where
   format-whole g pageEnd e = refl
   format-whole g (word cells) e = absurd (format-no-word g cells e)
 
-  -- W cells that wait are placed as a word
-  runs-full : (p : Place) (cells signs : List ℕ) (n : ℕ) → length cells ≡ n → n ≡ sheet .width
-      → Runs p (ended (cut (sheet .width) (gathered cells signs))) (wordBytes sheet p cells) (afterWord sheet p n) (ended (cut (sheet .width) (gathered [] signs)))
+  -- where W cells wait and one more comes, a part is placed
+  runs-full : (p : Place) (cells : List ℕ) (g : ℕ) (signs : List ℕ) → length cells ≡ sheet .width
+      → Runs p (ended (cut (sheet .width) (gathered (cells ++ g ∷ []) signs))) (wordBytes sheet p (partOf (sheet .width) cells))
+      (afterWord sheet p (sheet .width))
+      (ended (cut (sheet .width) (gathered (drop (sheet .width - 1) cells ++ g ∷ []) signs)))
   unfolding ended afterItems afterItem itemsBytes cellsIn
-  runs-full p cells signs n e f =
-      let c : cut (sheet .width) (gathered cells signs) ≡ word cells ∷ cut (sheet .width) (gathered [] signs) =
-      ap (λ (r : List ℕ). cut (sheet .width) (gathered r signs)) (sym (append-nil cells)) ∙ gathered-full (sheet .width) wide cells [] signs (e ∙ f) in
-      rw (c, ← e) (record { place = refl; written = refl })
+  runs-full p cells g signs e =
+      let part : List ℕ = partOf (sheet .width) cells in
+      let rest : List Item = cut (sheet .width) (gathered (drop (sheet .width - 1) cells ++ g ∷ []) signs) in
+      rw (gathered-full (sheet .width) wide cells (g ∷ []) signs e (omega arith))
+      (subst (λ (n : ℕ). Runs p (ended (word part ∷ rest)) (wordBytes sheet p part) (afterWord sheet p n) (ended rest))
+      (part-length (sheet .width) cells (omega arith) (omega arith))
+      (record { place = refl; written = refl }))
 
   -- a format sign after the cells that wait
   runs-format : (p : Place) (cells : List ℕ) (g : ℕ) (f : Item) (signs : List ℕ) → length cells ≤ sheet .width → formatOf g ≡ some f
@@ -209,48 +177,51 @@ module _ (sheet : Sheet) (wide : 1 ≤ sheet .width) where
       Runs p (ended (cut (sheet .width) (gathered cells (g ∷ signs)))) (stepBytes sheet p cells g) (stepped sheet p (length cells) g .place)
       (ended (cut (sheet .width) (gathered (waiting sheet cells g) signs)))
 
-  runs-step : (p : Place) (cells : List ℕ) (g : ℕ) (signs : List ℕ) → length cells < sheet .width → Step p cells g signs
+  runs-step : (p : Place) (cells : List ℕ) (g : ℕ) (signs : List ℕ) → length cells ≤ sheet .width → Step p cells g signs
   unfolding gathered stepped stepBytes waiting endsWord
-  runs-step p cells g signs h = go (eqb g blankCell) (formatOf g) (eqb (length cells + 1) (sheet .width)) refl refl refl
+  runs-step p cells g signs h = go (eqb g blankCell) (formatOf g) (eqb (length cells) (sheet .width)) refl refl refl
     where
-      go : (b : Bool) (f : Option Item) (full : Bool) → eqb g blankCell ≡ b → formatOf g ≡ f → eqb (length cells + 1) (sheet .width) ≡ full → Step p cells g signs
-      go true f full x y z = rw (x, gathered) (runs-blank p cells g (gathered [] signs) (omega arith) (blank-no-format g x))
-      go false none true x y z =
-          rw (x, gathered, y, z) (runs-full p (cells ++ g ∷ []) signs (length cells + 1) (length-append cells (g ∷ [])) (eqb-true (length cells + 1) (sheet .width) z))
+      go : (b : Bool) (f : Option Item) (full : Bool) → eqb g blankCell ≡ b → formatOf g ≡ f → eqb (length cells) (sheet .width) ≡ full → Step p cells g signs
+      go true f full x y z = rw (x, gathered) (runs-blank p cells g (gathered [] signs) h (blank-no-format g x))
+      go false none true x y z = rw (x, gathered, y, z) (runs-full p cells g signs (eqb-true (length cells) (sheet .width) z))
       go false none false x y z = rw (x, gathered, y, z) (record { place = refl; written = refl })
-      go false (some f) full x y z = rw (x, gathered, y) (runs-format p cells g f signs (omega arith) y)
+      go false (some f) full x y z = rw (x, gathered, y) (runs-format p cells g f signs h y)
 
   -- ---- For the loops
 
+  held-length : (cells : List ℕ) (g : ℕ) → length cells ≡ sheet .width → length (drop (sheet .width - 1) cells ++ g ∷ []) ≡ cellsHeld
+  held-length cells g e =
+      let l = length-append (drop (sheet .width - 1) cells) (g ∷ []) in let d = length-drop (sheet .width - 1) cells in omega arith
+
   pub waiting-length : (p : Place) (cells : List ℕ) (g : ℕ) → length (waiting sheet cells g) ≡ stepped sheet p (length cells) g .cells
   unfolding waiting stepped
-  waiting-length p cells g = go (endsWord g) (eqb (length cells + 1) (sheet .width)) refl refl
+  waiting-length p cells g = go (endsWord g) (eqb (length cells) (sheet .width)) refl refl
     where
-      go : (b full : Bool) → endsWord g ≡ b → eqb (length cells + 1) (sheet .width) ≡ full
+      go : (b full : Bool) → endsWord g ≡ b → eqb (length cells) (sheet .width) ≡ full
           → length (waiting sheet cells g) ≡ stepped sheet p (length cells) g .cells
       go true full x z = rw x
-      go false true x z = rw (x, z)
+      go false true x z = rw (x, z) (held-length cells g (eqb-true (length cells) (sheet .width) z))
       go false false x z = rw (x, z) (length-append cells (g ∷ []))
 
-  pub waiting-below : (cells : List ℕ) (g : ℕ) → length cells < sheet .width → length (waiting sheet cells g) < sheet .width
+  pub waiting-most : (cells : List ℕ) (g : ℕ) → length cells ≤ sheet .width → length (waiting sheet cells g) ≤ sheet .width
   unfolding waiting
-  waiting-below cells g h = go (endsWord g) (eqb (length cells + 1) (sheet .width)) refl refl
+  waiting-most cells g h = go (endsWord g) (eqb (length cells) (sheet .width)) refl refl
     where
-      go : (b full : Bool) → endsWord g ≡ b → eqb (length cells + 1) (sheet .width) ≡ full → length (waiting sheet cells g) < sheet .width
-      go true full x z = rw x wide
-      go false true x z = rw (x, z) wide
+      go : (b full : Bool) → endsWord g ≡ b → eqb (length cells) (sheet .width) ≡ full → length (waiting sheet cells g) ≤ sheet .width
+      go true full x z = rw x (omega arith)
+      go false true x z = rw (x, z, held-length cells g (eqb-true (length cells) (sheet .width) z)) wide
       go false false x z =
           let l = length-append cells (g ∷ []) in
-          let d = eqb-false (length cells + 1) (sheet .width) z in
-          let n : (length cells + 1 ≡ sheet .width → ⊥) = d in
+          let d = eqb-false (length cells) (sheet .width) z in
+          let n : (length cells ≡ sheet .width → ⊥) = d in
           rw (x, z) (omega arith)
 
-  pub step-after : (p : Place) (cells : List ℕ) (g : ℕ) (signs : List ℕ) → length cells < sheet .width
+  pub step-after : (p : Place) (cells : List ℕ) (g : ℕ) (signs : List ℕ) → length cells ≤ sheet .width
       → afterRest sheet p cells (g ∷ signs) ≡ afterRest sheet (stepped sheet p (length cells) g .place) (waiting sheet cells g) signs
   unfolding afterRest
   step-after p cells g signs h = runs-step p cells g signs h .place
 
-  pub step-bytes : (p : Place) (cells : List ℕ) (g : ℕ) (signs : List ℕ) → length cells < sheet .width
+  pub step-bytes : (p : Place) (cells : List ℕ) (g : ℕ) (signs : List ℕ) → length cells ≤ sheet .width
       → restBytes sheet p cells (g ∷ signs) ≡ stepBytes sheet p cells g ++ restBytes sheet (stepped sheet p (length cells) g .place) (waiting sheet cells g) signs
   unfolding restBytes
   step-bytes p cells g signs h = runs-step p cells g signs h .written
@@ -297,23 +268,24 @@ module _ (sheet : Sheet) where
   -- a sign adds at most 70 to each number, where no more cells wait than a line holds
   pub modest-step : (m n g : ℕ) (p : Place) → n ≤ mostWidth → Modest m p → Modest (m + 70) (stepped sheet p n g .place)
   unfolding stepped
-  modest-step m n g p h d = go (endsWord g) (eqb (n + 1) (sheet .width)) refl refl
+  modest-step m n g p h d = go (endsWord g) (eqb n (sheet .width)) refl refl
     where
-      go : (b full : Bool) → endsWord g ≡ b → eqb (n + 1) (sheet .width) ≡ full → Modest (m + 70) (stepped sheet p n g .place)
+      go : (b full : Bool) → endsWord g ≡ b → eqb n (sheet .width) ≡ full → Modest (m + 70) (stepped sheet p n g .place)
       go true full x z = rw x (modest-more (omega arith) (modest-format (m + 4 + n) g (afterFlush sheet p n) (modest-flush m n p d)))
-      go false true x z = rw (x, z) (modest-more (omega arith) (modest-word sheet m (n + 1) p d))
+      go false true x z =
+          let e = eqb-true n (sheet .width) z in rw (x, z) (modest-more (omega arith) (modest-word sheet m (sheet .width) p d))
       go false false x z = rw (x, z) (modest-more (omega arith) d)
 
 -- ---- A turn of a loop over the signs: what is left after it is what was left before
 
-module _ (sheet : Sheet) (wide : 1 ≤ sheet .width) (signs : List ℕ) (i : ℕ) (there : i < length signs) (p : Place) (cells : List ℕ) (below : length cells < sheet .width) where
+module _ (sheet : Sheet) (wide : 2 ≤ sheet .width) (signs : List ℕ) (i : ℕ) (there : i < length signs) (p : Place) (cells : List ℕ) (most : length cells ≤ sheet .width) where
   abbrev sign : ℕ
   sign = getD signs i 0
 
   pub turn-after : afterRest sheet p cells (drop i signs) ≡ afterRest sheet (stepped sheet p (length cells) sign .place) (waiting sheet cells sign) (drop (i + 1) signs)
-  turn-after = rw (drop-cons signs i 0 there, add-one i) (step-after sheet wide p cells sign (drop (suc i) signs) below)
+  turn-after = rw (drop-cons signs i 0 there, add-one i) (step-after sheet wide p cells sign (drop (suc i) signs) most)
 
   pub turn-bytes :
       restBytes sheet p cells (drop i signs)
       ≡ stepBytes sheet p cells sign ++ restBytes sheet (stepped sheet p (length cells) sign .place) (waiting sheet cells sign) (drop (i + 1) signs)
-  turn-bytes = rw (drop-cons signs i 0 there, add-one i) (step-bytes sheet wide p cells sign (drop (suc i) signs) below)
+  turn-bytes = rw (drop-cons signs i 0 there, add-one i) (step-bytes sheet wide p cells sign (drop (suc i) signs) most)

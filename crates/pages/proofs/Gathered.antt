@@ -100,7 +100,7 @@ end-gathered cells at-end = sym (append-nil (closed cells))
 end-gathered cells (at-sign {g = g} (a-blank e)) = rw (eq-eqb g blankCell e, gathered)
 end-gathered cells (at-sign {g = g} (a-format s)) = rw (ne-eqb g blankCell (format-no-blank s), format-of s, gathered)
 
-closed-word : (cells : List ℕ) (items : List Item) → 1 ≤ length cells → closed cells ++ items ≡ word cells ∷ items
+pub closed-word : (cells : List ℕ) (items : List Item) → 1 ≤ length cells → closed cells ++ items ≡ word cells ∷ items
 unfolding closed
 closed-word [] items least = absurd (omega arith)
 closed-word (c ∷ cells) items least = refl

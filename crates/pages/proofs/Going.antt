@@ -22,7 +22,7 @@ use Rattle.pages.specs.declared.Sheet.{Sheet}
 
 pub record Going (sheet : Sheet) (signs out₀ out word : List ℕ) (p : Place) (n i : ℕ) : Type 0 where
   pub there : i ≤ length signs
-  pub below : n < sheet .width
+  pub below : n ≤ sheet .width
   pub buffer : length word ≡ 60
   pub same : length out ≡ length out₀
   pub modest : Modest (70 * i) p
@@ -34,7 +34,7 @@ pub record Going (sheet : Sheet) (signs out₀ out word : List ℕ) (p : Place) 
 -- the sizes are right, and the whole has room
 pub record Sized (sheet : Sheet) (signs out₀ : List ℕ) : Type 0 where
   pub most : length signs ≤ 65536
-  pub wide : 1 ≤ sheet .width
+  pub wide : 2 ≤ sheet .width
   pub narrow : sheet .width ≤ 60
   pub room : length (volume sheet (itemsOf (sheet .width) signs)) ≤ length out₀
 
@@ -100,9 +100,9 @@ module _ {sheet : Sheet} {signs out₀ : List ℕ} (z : Sized sheet signs out₀
           let e : r .place ≡ q = ap (λ (x : Gathering). x .place) (s .place) in
           let u : r .cells ≡ length (waiting sheet cells g) =
           ap (λ (x : Gathering). x .cells) (s .place) ∙ ap (λ (j : ℕ). stepped sheet p j g .cells) (sym size) ∙ sym (Gather.waiting-length sheet (z .wide) p cells g) in
-          let f = Gather.waiting-below sheet (z .wide) cells g (omega arith) in
+          let f = Gather.waiting-most sheet (z .wide) cells g (omega arith) in
           let w : q .written ≡ p .written + length bytes =
-          ap (λ (j : ℕ). stepped sheet p j g .place .written) (sym size) ∙ Bytes.written-step sheet p cells g in
+          ap (λ (j : ℕ). stepped sheet p j g .place .written) (sym size) ∙ Bytes.written-step sheet (let w = z .wide in omega arith) p cells g in
           let a = v .written in
           record {
             there = omega arith;

@@ -1,18 +1,20 @@
--- The cells of the pages that aren't blank are, in order, the cells of the words, and so the signs 1 to 63. A move writes blanks, a word or a mark,
--- and of these only the word has dots.
+-- The cells of the pages that aren't blank are, in order, the parts of the words, and these, without the hyphens that cutting put there, are the signs 1 to
+-- 63. A move writes blanks, a word or a mark, and of these only the word has dots.
 use Prim.Native.Nat.{ℕ, _≤_, _<_}
 use mathlib.Core.Bool.{true}
-use mathlib.Core.List.{List, [], _∷_, append-nil, flatten}
-use mathlib.Core.Path.{_≡_, refl, _∙_}
+use mathlib.Core.List.{List, [], _∷_, append-nil, flatten, map}
+use mathlib.Core.Path.{_≡_, refl, _∙_, ap}
 use native.Mathlib.Omega.{arith}
 use native.Mathlib.Decide.{ℕ-discrete}
 use lib.ListN.{length, getD, replicate}
 use borrow.Author.Tests.{le-leb, lt-leb, ne-eqb}
 use Rattle.table.specs.Numbers.{blankCell}
 use Rattle.table.specs.Cells.{mostCell}
+use Rattle.table.specs.Lists.{All, empty, _and_}
 use Rattle.table.proofs.Lists.{all-replicate, all-weaker, all-of-places}
 use Rattle.table.specs.Printed.{PrintedSign, cell, format}
-use Rattle.pages.specs.Words.{Item, itemsOf}
+use Rattle.pages.specs.Words.{Item, parts, itemsOf}
+use Rattle.pages.specs.Parts.{Sized, bare, cutsOf}
 use Rattle.pages.specs.Place.{cellsAfter, volume}
 use Rattle.pages.specs.Pages.{Line, Page, bytesOfLines, bytesOfPages, pagesOf}
 use Rattle.pages.specs.Lists.{only}
@@ -21,7 +23,8 @@ use Rattle.pages.specs.Signs.{isDotted, endsWord, staysInWord}
 use Rattle.pages.proofs.Lists.{flatten-append, only-append, only-all, only-none, only-same}
 use Rattle.pages.proofs.Kept.{Kept, volume-keeps}
 use Rattle.pages.proofs.Volume.{pages-have-the-bytes}
-use Rattle.pages.proofs.Words.{format-signs, no-format, items-fit, items-join}
+use Rattle.pages.proofs.Words.{Word, format-signs, no-format, words-join, items-are-cuts, words-are-words, items-fit}
+use Rattle.pages.proofs.Parts.{cut-as-written, cuts-sized, bare-joined}
 use Rattle.pages.specs.declared.Sheet.{Sheet}
 
 -- ---- What a move writes
@@ -84,10 +87,38 @@ signs-dotted g (cell h) = go (ℕ-discrete g blankCell)
 signs-dotted g (format l m) =
     rw (ne-eqb g blankCell (λ e. omega arith), format-signs g l m, le-leb 1 g (omega arith), lt-leb g mostCell (omega arith))
 
--- the cells of the pages that aren't blank are the signs 1 to 63, in order
-pub volume-has-the-signs : (sheet : Sheet) (signs : List ℕ) → ((i : ℕ) → i < length signs → PrintedSign (getD signs i 0)) → 1 ≤ sheet .width → 0 < sheet .length
-    → only isDotted (flatten (flatten (pagesOf (volume sheet (itemsOf (sheet .width) signs))))) ≡ only isDotted signs
-volume-has-the-signs sheet signs printed wide room =
-    cells-are-the-words sheet (itemsOf (sheet .width) signs) (items-fit wide signs printed) room
-    ∙ items-join (sheet .width) signs
-    ∙ only-same staysInWord (all-weaker signs-dotted (all-of-places signs 0 printed))
+-- the words of the signs, cut and without their hyphens, are the words
+all-bare-joined : {W : ℕ} → 2 ≤ W → {words : List (List ℕ)} → All Word words → flatten (flatten (map bare (map (parts W) words))) ≡ flatten words
+unfolding flatten
+all-bare-joined wide empty = refl
+all-bare-joined {W} wide (_and_ {x = w} {xs = words} h hs) =
+    rw (
+      flatten-append (bare (parts W w)) (flatten (map bare (map (parts W) words))),
+      bare-joined (cut-as-written W wide w (h .least)),
+      all-bare-joined wide hs,
+    )
+
+all-sized : {W : ℕ} → 2 ≤ W → {words : List (List ℕ)} → All Word words → All (Sized W) (map (parts W) words)
+all-sized wide empty = empty
+all-sized {W} wide (_and_ {x = w} h hs) = cuts-sized (cut-as-written W wide w (h .least)) and all-sized wide hs
+
+module _ (sheet : Sheet) (signs : List ℕ) (printed : (i : ℕ) → i < length signs → PrintedSign (getD signs i 0)) (wide : 2 ≤ sheet .width) where
+  all-printed : All PrintedSign signs
+  all-printed = all-of-places signs 0 printed
+
+  -- the cells of the pages that aren't blank are, in order, the parts of the words of the signs
+  pub volume-has-the-parts : 0 < sheet .length
+      → only isDotted (flatten (flatten (pagesOf (volume sheet (itemsOf (sheet .width) signs))))) ≡ flatten (flatten (cutsOf (sheet .width) signs))
+  volume-has-the-parts room =
+      cells-are-the-words sheet (itemsOf (sheet .width) signs) (items-fit wide signs printed) room ∙ ap flatten (items-are-cuts (sheet .width) signs)
+
+  -- these have W cells each with the hyphen, but for the last of a word, which has 1 to W
+  pub signs-cut-sized : All (Sized (sheet .width)) (cutsOf (sheet .width) signs)
+  unfolding cutsOf
+  signs-cut-sized = all-sized wide (words-are-words signs all-printed)
+
+  -- without the hyphens they are the signs 1 to 63
+  pub parts-are-the-signs : flatten (flatten (map bare (cutsOf (sheet .width) signs))) ≡ only isDotted signs
+  unfolding cutsOf
+  parts-are-the-signs =
+      all-bare-joined wide (words-are-words signs all-printed) ∙ words-join signs ∙ only-same staysInWord (all-weaker signs-dotted all-printed)

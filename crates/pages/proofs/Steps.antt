@@ -1,18 +1,20 @@
--- What a sign does, by case: one that ends a word, the cell that fills the line, a cell that waits. The place with the cells that wait then, the bytes, and
+-- What a sign does, by case: one that ends a word, the cell that tells that the word is cut, a cell that waits. The place with the cells that wait then, the bytes, and
 -- those cells.
-use Prim.Native.Nat.{ℕ, _+_, _^_, _≤_, _<_}
+use Prim.Native.Nat.{ℕ, suc, _+_, _-_, _^_, _≤_, _<_}
 use mathlib.Core.Bool.{true, false}
 use mathlib.Core.List.{List, [], _∷_, _++_}
-use mathlib.Core.Path.{_≡_, _∙_, ap}
+use mathlib.Core.Path.{_≡_, refl, sym, _∙_, ap, ap₂}
 use native.Mathlib.Numerals.{add-one}
 use native.Mathlib.Omega.{arith}
-use lib.ListN.{length, set, take, length-append}
-use lib.Seq.{sets, length-sets, take-suc-set}
+use lib.ListN.{length, getD, set, take, drop, length-append, length-set, drop-of-length-le}
+use lib.Seq.{sets, length-sets, length-take-le, take-suc-set, take-take, getD-take, drop-cons}
 use borrow.Author.Tests.{eq-eqb, ne-eqb}
 use Rattle.table.specs.inside.Wrote.{Wrote}
 use Rattle.table.proofs.Wrote.{put-then}
+use Rattle.pages.specs.Numbers.{hyphen}
+use Rattle.pages.specs.Words.{partOf}
 use Rattle.pages.specs.Place.{afterWord}
-use Rattle.pages.specs.inside.Gather.{Modest, afterFlush, flushBytes, afterFormat, formatBytes, wordBytes, stepped, waiting, stepBytes}
+use Rattle.pages.specs.inside.Gather.{Modest, afterFlush, flushBytes, afterFormat, formatBytes, wordBytes, cellsHeld, stepped, waiting, stepBytes}
 use Rattle.pages.specs.Signs.{endsWord}
 use Rattle.pages.specs.inside.Writing.{Room, Moved}
 use Rattle.pages.specs.declared.Place.{Place}
@@ -32,18 +34,49 @@ module _ (sheet : Sheet) (p : Place) (cells : List ℕ) (n g : ℕ) (e : length 
   unfolding stepped stepBytes waiting
   step-ends x = record { moved = rw x; bytes-are = rw (x, e); waits = rw x }
 
-  pub step-full : endsWord g ≡ false → n + 1 ≡ sheet .width
-      → StepIs sheet p cells n g (afterWord sheet p (n + 1)) 0 (wordBytes sheet p (cells ++ g ∷ [])) []
+  pub step-cuts : endsWord g ≡ false → n ≡ sheet .width
+      → StepIs sheet p cells n g (afterWord sheet p (sheet .width)) cellsHeld (wordBytes sheet p (partOf (sheet .width) cells))
+      (drop (sheet .width - 1) cells ++ g ∷ [])
   unfolding stepped stepBytes waiting
-  step-full x h = let w = eq-eqb (n + 1) (sheet .width) h in record { moved = rw (x, w); bytes-are = rw (x, e, w); waits = rw (x, e, w) }
+  step-cuts x h = let w = eq-eqb n (sheet .width) h in record { moved = rw (x, w); bytes-are = rw (x, e, w); waits = rw (x, e, w) }
 
-  pub step-waits : endsWord g ≡ false → (n + 1 ≡ sheet .width → ⊥) → StepIs sheet p cells n g p (n + 1) [] (cells ++ g ∷ [])
+  pub step-waits : endsWord g ≡ false → (n ≡ sheet .width → ⊥) → StepIs sheet p cells n g p (n + 1) [] (cells ++ g ∷ [])
   unfolding stepped stepBytes waiting
-  step-waits x h = let w = ne-eqb (n + 1) (sheet .width) h in record { moved = rw (x, w); bytes-are = rw (x, e, w); waits = rw (x, e, w) }
+  step-waits x h = let w = ne-eqb n (sheet .width) h in record { moved = rw (x, w); bytes-are = rw (x, e, w); waits = rw (x, e, w) }
 
 -- a cell that is stored after those that wait
 pub one-waits-more : (word : List ℕ) (n g : ℕ) → n < length word → take (n + 1) (set word n g) ≡ take n word ++ g ∷ []
 one-waits-more word n g h = rw (add-one n) (take-suc-set word n g h)
+
+-- two cells that are stored at the front
+two-stored : (word : List ℕ) (c g : ℕ) → 2 ≤ length word → take cellsHeld (set (set word 0 c) 1 g) ≡ c ∷ g ∷ []
+two-stored [] c g h = absurd (omega arith)
+two-stored (x ∷ []) c g h = absurd (omega arith)
+two-stored (x ∷ y ∷ word) c g h = refl
+
+-- ---- A word that is cut: W cells stand in front of the buffer
+
+module _ (word : List ℕ) (W : ℕ) (wide : 2 ≤ W) (fits : W ≤ length word) where
+  -- the hyphen in place of the last of them makes the part
+  pub cut-part : take W (set word (W - 1) hyphen) ≡ partOf W (take W word)
+  cut-part =
+      let e : suc (W - 1) ≡ W = omega arith in
+      ap (λ (k : ℕ). take k (set word (W - 1) hyphen)) (sym e)
+      ∙ take-suc-set word (W - 1) hyphen (omega arith)
+      ∙ ap (λ (front : List ℕ). front ++ hyphen ∷ []) (sym (take-take (W - 1) W word (omega arith)))
+
+  -- the last of them alone is left
+  held : drop (W - 1) (take W word) ≡ getD word (W - 1) 0 ∷ []
+  held =
+      let l = length-take-le W word fits in
+      drop-cons (take W word) (W - 1) 0 (omega arith)
+      ∙ ap₂ _∷_ (getD-take W word (W - 1) 0 (omega arith)) (drop-of-length-le (take W word) {i = suc (W - 1)} (omega arith))
+
+  -- it waits on, with the cell that came
+  pub cut-waits : (g : ℕ) → take cellsHeld (set (set (set word (W - 1) hyphen) 0 (getD word (W - 1) 0)) 1 g) ≡ drop (W - 1) (take W word) ++ g ∷ []
+  cut-waits g =
+      let l = length-set word (W - 1) hyphen in
+      two-stored (set word (W - 1) hyphen) (getD word (W - 1) 0) g (omega arith) ∙ ap (λ (h : List ℕ). h ++ g ∷ []) (sym held)
 
 -- ---- A sign that ends a word, and the end of the text: the cells that wait are placed, and then the sign moves the place
 

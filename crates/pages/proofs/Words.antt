@@ -1,6 +1,6 @@
--- From signs to items nothing is lost: the words are the signs that end no word, in order, and the parts of a word are the word. The items of printed
+-- From signs to items nothing is lost: the words are the signs that end no word, in order, and the words of the items are their parts. The items of printed
 -- signs fit, and they still do where lines are ended by choice.
-use Prim.Native.Nat.{ℕ, zero, suc, _≤_, _<_}
+use Prim.Native.Nat.{ℕ, zero, suc, _-_, _≤_, _<_}
 use mathlib.Core.Bool.{Bool, true, false, cond}
 use mathlib.Core.List.{List, [], _∷_, _++_, append-assoc, append-nil, flatten, map}
 use mathlib.Core.Logic.{_≢_}
@@ -8,20 +8,22 @@ use mathlib.Core.Option.{Option, none, some}
 use mathlib.Core.Path.{_≡_, refl, ap}
 use native.Mathlib.Omega.{arith}
 use lib.Dec.{leb, eqb}
-use lib.ListN.{length, getD, take, drop, take-append-drop, length-take, length-drop}
+use lib.ListN.{length, getD, take, drop, length-append, length-drop}
+use lib.Seq.{length-take-le}
 use borrow.Author.Tests.{ne-eqb, leb-true, leb-false, eqb-false}
 use Rattle.table.specs.Numbers.{blankCell, signLineEnd, signEmptyLine, signParagraph, signPageEnd}
 use Rattle.table.specs.Cells.{mostCell}
+use Rattle.pages.specs.Numbers.{hyphen}
 use Rattle.table.specs.Search.{isThere}
 use Rattle.table.specs.Lists.{All, empty, _and_}
 use Rattle.table.proofs.Lists.{all-append, all-take, all-drop, all-of-places}
 use Rattle.table.specs.Printed.{PrintedSign, cell, format}
-use Rattle.pages.specs.Words.{Item, word, lineEnd, emptyLine, paragraph, pageEnd, formatOf, closed, gathered, wordsOf, cutWithin, parts, cutItem, cut, itemsOf}
+use Rattle.pages.specs.Words.{Item, word, lineEnd, emptyLine, paragraph, pageEnd, formatOf, closed, gathered, wordsOf, partOf, cutWithin, parts, cutItem, cut, itemsOf}
+use Rattle.pages.specs.Parts.{cutsOf}
 use Rattle.pages.specs.Spots.{withChoices}
 use Rattle.pages.specs.Lists.{only}
 use Rattle.pages.specs.Fitting.{Dotted, WordFits, Fitting, wordsIn}
 use Rattle.pages.specs.Signs.{endsWord, staysInWord}
-use Rattle.pages.proofs.Lists.{flatten-append}
 
 -- ---- The words of items
 
@@ -76,45 +78,37 @@ fitting-with-choices choices items fits = items-fit-by-words _ (rw (choices-keep
 
 -- ---- Parts
 
-cut-joins : (n W : ℕ) (cells : List ℕ) → flatten (cutWithin n W cells) ≡ cells
-unfolding cutWithin flatten
-cut-joins zero W cells = append-nil cells
-cut-joins (suc n) W cells = go (leb (length cells) W) refl (cut-joins n W (drop W cells))
-  where
-    go : (b : Bool) → leb (length cells) W ≡ b → flatten (cutWithin n W (drop W cells)) ≡ drop W cells
-        → flatten (cutWithin (suc n) W cells) ≡ cells
-    go true e h = rw (e, cutWithin) (append-nil cells)
-    go false e h = rw (e, cutWithin, h) (take-append-drop W cells)
-
--- the parts of a word joined are the word
-pub parts-join : (W : ℕ) (cells : List ℕ) → flatten (parts W cells) ≡ cells
-unfolding parts
-parts-join W cells = cut-joins (length cells) W cells
+-- a part has W cells with its hyphen
+pub part-length : (W : ℕ) (cells : List ℕ) → 1 ≤ W → W ≤ length cells → length (partOf W cells) ≡ W
+part-length W cells wide long =
+    let l = length-append (take (W - 1) cells) (hyphen ∷ []) in let t = length-take-le (W - 1) cells (omega arith) in omega arith
 
 -- a word: a cell at least, and no blank
-record Word (cells : List ℕ) : Type 0 where
-  least : 1 ≤ length cells
-  dotted : All Dotted cells
+pub record Word (cells : List ℕ) : Type 0 where
+  pub least : 1 ≤ length cells
+  pub dotted : All Dotted cells
 
-cut-fits : {W : ℕ} → 1 ≤ W → (n : ℕ) (cells : List ℕ) → length cells ≤ n → Word cells → All (WordFits W) (cutWithin n W cells)
+cut-fits : {W : ℕ} → 2 ≤ W → (n : ℕ) (cells : List ℕ) → length cells ≤ n → Word cells → All (WordFits W) (cutWithin n W cells)
 unfolding cutWithin
 cut-fits wide zero cells enough h = absurd (omega arith)
-cut-fits {W} wide (suc n) cells enough h = go (leb (length cells) W) refl (cut-fits wide n (drop W cells))
+cut-fits {W} wide (suc n) cells enough h = go (leb (length cells) W) refl (cut-fits wide n (drop (W - 1) cells))
   where
     go : (b : Bool) → leb (length cells) W ≡ b
-        → (length (drop W cells) ≤ n → Word (drop W cells) → All (WordFits W) (cutWithin n W (drop W cells)))
+        → (length (drop (W - 1) cells) ≤ n → Word (drop (W - 1) cells) → All (WordFits W) (cutWithin n W (drop (W - 1) cells)))
         → All (WordFits W) (cutWithin (suc n) W cells)
     go true e later =
         rw (e, cutWithin) (record { least = h .least; most = leb-true (length cells) W e; dotted = h .dotted } and empty)
     go false e later =
         let over = leb-false (length cells) W e in
-        let front = length-take W cells in
-        let rest = length-drop W cells in
-        let part : WordFits W (take W cells) = record { least = omega arith; most = omega arith; dotted = all-take W (h .dotted) } in
-        rw (e, cutWithin) (part and later (omega arith) (record { least = omega arith; dotted = all-drop W (h .dotted) }))
+        let size = part-length W cells (omega arith) (omega arith) in
+        let rest = length-drop (W - 1) cells in
+        let hyphened : Dotted hyphen = record { least = omega arith; most = omega arith } in
+        let part : WordFits W (partOf W cells) =
+        record { least = omega arith; most = omega arith; dotted = all-append (all-take (W - 1) (h .dotted)) (hyphened and empty) } in
+        rw (e, cutWithin) (part and later (omega arith) (record { least = omega arith; dotted = all-drop (W - 1) (h .dotted) }))
 
 -- each part has a cell, and at most W
-pub parts-fit : {W : ℕ} → 1 ≤ W → (cells : List ℕ) → 1 ≤ length cells → All Dotted cells → All (WordFits W) (parts W cells)
+pub parts-fit : {W : ℕ} → 2 ≤ W → (cells : List ℕ) → 1 ≤ length cells → All Dotted cells → All (WordFits W) (parts W cells)
 unfolding parts
 parts-fit wide cells least dotted = cut-fits wide (length cells) cells (omega arith) (record { least = least; dotted = dotted })
 
@@ -219,23 +213,23 @@ cut-words W (emptyLine ∷ items) = cut-words W items
 cut-words W (paragraph ∷ items) = cut-words W items
 cut-words W (pageEnd ∷ items) = cut-words W items
 
-all-parts-join : (W : ℕ) (words : List (List ℕ)) → flatten (flatten (map (parts W) words)) ≡ flatten words
-unfolding flatten
-all-parts-join W [] = refl
-all-parts-join W (w ∷ words) = rw (flatten-append (parts W w) (flatten (map (parts W) words)), parts-join, all-parts-join W words)
-
-all-parts-fit : {W : ℕ} → 1 ≤ W → {words : List (List ℕ)} → All Word words → All (WordFits W) (flatten (map (parts W) words))
+all-parts-fit : {W : ℕ} → 2 ≤ W → {words : List (List ℕ)} → All Word words → All (WordFits W) (flatten (map (parts W) words))
 unfolding flatten
 all-parts-fit wide empty = empty
 all-parts-fit wide (_and_ {x = w} h hs) = all-append (parts-fit wide w (h .least) (h .dotted)) (all-parts-fit wide hs)
 
--- the words of the items, parts or not, are the signs that end no word
-pub items-join : (W : ℕ) (signs : List ℕ) → flatten (wordsIn (itemsOf W signs)) ≡ only staysInWord signs
-unfolding itemsOf
-items-join W signs = rw (cut-words W (wordsOf signs), all-parts-join W (wordsIn (wordsOf signs))) (words-join signs)
+-- the words of the items are the parts of the words
+pub items-are-cuts : (W : ℕ) (signs : List ℕ) → wordsIn (itemsOf W signs) ≡ flatten (cutsOf W signs)
+unfolding itemsOf cutsOf
+items-are-cuts W signs = cut-words W (wordsOf signs)
+
+-- the words of printed signs have a cell at least, and no blank
+pub words-are-words : (signs : List ℕ) → All PrintedSign signs → All Word (wordsIn (wordsOf signs))
+unfolding wordsOf
+words-are-words signs printed = gathered-words empty printed
 
 -- the items of printed signs fit
-pub items-fit : {W : ℕ} → 1 ≤ W → (signs : List ℕ) → ((i : ℕ) → i < length signs → PrintedSign (getD signs i 0)) → Fitting W (itemsOf W signs)
-unfolding itemsOf wordsOf
+pub items-fit : {W : ℕ} → 2 ≤ W → (signs : List ℕ) → ((i : ℕ) → i < length signs → PrintedSign (getD signs i 0)) → Fitting W (itemsOf W signs)
+unfolding itemsOf
 items-fit {W} wide signs printed =
-    items-fit-by-words _ (rw (cut-words W (wordsOf signs)) (all-parts-fit wide (gathered-words empty (all-of-places signs 0 printed))))
+    items-fit-by-words _ (rw (cut-words W (wordsOf signs)) (all-parts-fit wide (words-are-words signs (all-of-places signs 0 printed))))

@@ -1,4 +1,4 @@
--- The numbers of document 01 for lines and pages, each said once: 'Lines and pages'.
+-- The numbers of documents 01 and 02 for lines and pages, each said once: 'Lines and pages', and the hyphen of request 2.
 use Prim.Native.Nat.{ℕ}
 
 -- ---- The limits of the width and the page length
@@ -22,6 +22,11 @@ gapBlanks = 1
 
 abbrev pub paragraphBlanks : ℕ
 paragraphBlanks = 2
+
+-- ---- The cell that ends each part of a cut word but the last
+
+abbrev pub hyphen : ℕ
+hyphen = 36
 
 -- ---- Output bytes that are no cells: after each line, and after each page's last line
 

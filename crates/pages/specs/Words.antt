@@ -1,12 +1,13 @@
 -- 'Lines and pages': the words and format signs that signs make, and a word that is wider than the line, cut into parts. Of the signs that
 -- pieces print 64 has become 0, and 99 is gone; any other sign is a cell.
-use Prim.Native.Nat.{ℕ, zero, suc}
+use Prim.Native.Nat.{ℕ, zero, suc, _-_}
 use mathlib.Core.Bool.{true, false, cond}
 use mathlib.Core.List.{List, [], _∷_, _++_, map}
 use mathlib.Core.Option.{Option, none, some}
 use lib.ListN.{length, take, drop}
 use lib.Dec.{leb, eqb}
 use Rattle.table.specs.Numbers.{blankCell, signLineEnd, signEmptyLine, signParagraph, signPageEnd}
+use Rattle.pages.specs.Numbers.{hyphen}
 
 -- a word of cells, or one of the format signs 70, 71, 72 and 73
 pub data Item : Type 0 where
@@ -36,11 +37,14 @@ gathered cells (g ∷ signs) =
 unfoldable pub wordsOf : List ℕ → List Item
 wordsOf signs = gathered [] signs
 
--- ---- Parts: a word wider than W is cut into parts of exactly W cells and a rest, if cells remain
+-- ---- Parts: while more than W cells of a word remain, a part is W-1 cells and then cell 36; the rest, at most W, has none
+
+abbrev pub partOf : ℕ → List ℕ → List ℕ
+partOf W cells = take (W - 1) cells ++ hyphen ∷ []
 
 unfoldable pub cutWithin : ℕ → ℕ → List ℕ → List (List ℕ)
 cutWithin zero W cells = cells ∷ []
-cutWithin (suc n) W cells = elim (leb (length cells) W) [ true ↦ cells ∷ [] | false ↦ take W cells ∷ cutWithin n W (drop W cells) ]
+cutWithin (suc n) W cells = elim (leb (length cells) W) [ true ↦ cells ∷ [] | false ↦ partOf W cells ∷ cutWithin n W (drop (W - 1) cells) ]
 
 -- each cut takes a cell, so as many cuts as there are cells are enough
 unfoldable pub parts : ℕ → List ℕ → List (List ℕ)

@@ -43,7 +43,8 @@ pub(crate) fn format(p: Place, sheet: Sheet, g: u8) -> Place
     }
 }
 
-// One sign.
+// One sign. A cell that comes where as many wait as the width tells that the word is cut: a part is
+// placed, and the last of those that waited waits on with the one that came.
 fn step(p: Place, n: usize, g: u8, sheet: Sheet) -> Gathering
     requires { ⌜ (Modest (2 ^ 31) p) × (n ≤ mostWidth) ⌝ }
     ensures { λ r. ⌜ r ≡ stepped sheet p n g ⌝ }
@@ -52,9 +53,9 @@ fn step(p: Place, n: usize, g: u8, sheet: Sheet) -> Gathering
         let q = format(flush(p, sheet, n), sheet, g);
         return Gathering { place: q, cells: 0 };
     }
-    if n + 1 == sheet.width {
-        let q = p.word(sheet, n + 1);
-        return Gathering { place: q, cells: 0 };
+    if n == sheet.width {
+        let q = p.word(sheet, n);
+        return Gathering { place: q, cells: 2 };
     }
     Gathering {
         place: p,
@@ -64,7 +65,7 @@ fn step(p: Place, n: usize, g: u8, sheet: Sheet) -> Gathering
 
 // The place at the end of the signs.
 pub(crate) fn measure(signs: &[u8], sheet: Sheet) -> Place
-    requires { ⌜ (length (now signs) ≤ entrySigns * mostText) × (1 ≤ sheet .width) × (sheet .width ≤ mostWidth) ⌝ }
+    requires { ⌜ (length (now signs) ≤ entrySigns * mostText) × (2 ≤ sheet .width) × (sheet .width ≤ mostWidth) ⌝ }
     ensures { λ r. ⌜ r ≡ volumeEnd sheet (itemsOf (sheet .width) (now (signs .entry))) ⌝ }
 {
     let mut p = Place::first();

@@ -97,9 +97,10 @@ fn put_format(out: &mut [u8], p: Place, g: u8, sheet: Sheet) -> Place
 }
 
 // One sign: a blank or a format sign places the cells that wait in front of `word`; a cell waits
-// with them, until they are as many as the width.
+// with them. Where they are as many as the width it tells that the word is cut: all but the last of
+// them and the hyphen are placed, and the last waits on with the one that came.
 fn put_sign(out: &mut [u8], p: Place, word: &mut [u8], n: usize, g: u8, sheet: Sheet) -> Gathering
-    requires { ⌜ (Room (2 ^ 31) (now out) p (stepBytes sheet p (take n (now word)) g)) × (n < sheet .width) × (sheet .width ≤ mostWidth) × (sheet .width ≤ length (now word)) ⌝ }
+    requires { ⌜ (Room (2 ^ 31) (now out) p (stepBytes sheet p (take n (now word)) g)) × (n ≤ sheet .width) × (2 ≤ sheet .width) × (sheet .width ≤ mostWidth) × (sheet .width ≤ length (now word)) ⌝ }
     ensures { λ r. ⌜ Signed sheet (now (out .entry)) p (now (word .entry)) n g (now (out .exit)) (now (word .exit)) r ⌝ }
 {
     if ends_word(g) {
@@ -107,18 +108,24 @@ fn put_sign(out: &mut [u8], p: Place, word: &mut [u8], n: usize, g: u8, sheet: S
         let r = put_format(out, q, g, sheet);
         return Gathering { place: r, cells: 0 };
     }
-    word[n] = g;
-    let m = n + 1;
-    if m == sheet.width {
-        let q = put_word(out, p, &word[..m], sheet);
-        return Gathering { place: q, cells: 0 };
+    if n == sheet.width {
+        let held = word[n - 1];
+        word[n - 1] = 36;
+        let q = put_word(out, p, &word[..n], sheet);
+        word[0] = held;
+        word[1] = g;
+        return Gathering { place: q, cells: 2 };
     }
-    Gathering { place: p, cells: m }
+    word[n] = g;
+    Gathering {
+        place: p,
+        cells: n + 1,
+    }
 }
 
 // All signs are written, and the end of the text.
 pub(crate) fn write(signs: &[u8], sheet: Sheet, out: &mut [u8])
-    requires { ⌜ (length (now signs) ≤ entrySigns * mostText) × (1 ≤ sheet .width) × (sheet .width ≤ mostWidth) × (length (volume sheet (itemsOf (sheet .width) (now signs))) ≤ length (now out)) ⌝ }
+    requires { ⌜ (length (now signs) ≤ entrySigns * mostText) × (2 ≤ sheet .width) × (sheet .width ≤ mostWidth) × (length (volume sheet (itemsOf (sheet .width) (now signs))) ≤ length (now out)) ⌝ }
     ensures { λ _. ⌜ Wrote (now (out .entry)) 0 (volume sheet (itemsOf (sheet .width) (now (signs .entry)))) (now (out .exit)) ⌝ }
 {
     let mut word = [0u8; 60];

@@ -40,7 +40,7 @@ pub record Signed (sheet : Sheet) (before : List ℕ) (p : Place) (word : List �
 -- signs that can be counted, and a width that can be gathered
 pub record Fillable (sheet : Sheet) (signs : List ℕ) : Type 0 where
   pub most : length signs ≤ entrySigns * mostText
-  pub wide : 1 ≤ sheet .width
+  pub wide : 2 ≤ sheet .width
   pub narrow : sheet .width ≤ mostWidth
 
 -- a call that ends with this answer and this output has this outcome

@@ -1,4 +1,4 @@
--- `pages::measuring::measure` meets its contract. The loop's invariant: some cells wait, fewer than the width, and what is left to do from here with them
+-- `pages::measuring::measure` meets its contract. The loop's invariant: some cells wait, no more than the width, and what is left to do from here with them
 -- ends where the whole ends. A sign adds at most 70 to each number of the place.
 use Prim.Native.Nat.{ℕ, _+_, _*_, _-_, _^_, _≤_, _<_}
 use mathlib.Core.List.{List, []}
@@ -18,7 +18,7 @@ use Rattle.pages.proofs.measuring.measure.Tie as tie
 
 abbrev Inv-loop : tie.InvT-loop
 Inv-loop signs sheet p₀ n₀ i₀ p n i =
-    (i ≤ length signs) × (n < sheet .width) × Modest (70 * i) p
+    (i ≤ length signs) × (n ≤ sheet .width) × Modest (70 * i) p
     × ((cells : List ℕ) × (length cells ≡ n) × (afterRest sheet p cells (drop i signs) ≡ volumeEnd sheet (itemsOf (sheet .width) signs)))
 
 abbrev μ-loop : tie.MeasureT-loop
@@ -63,15 +63,15 @@ loop-again c =
     let size : length cells ≡ l .n = v .3 .1 in
     let there : l .i < length (a .signs .now) = omega arith in
     let g : ℕ = getD (a .signs .now) (l .i) 0 in
-    let below : length cells < a .sheet .width = omega arith in
+    let most : length cells ≤ a .sheet .width = omega arith in
     let e : c .before .step .result ≡ stepped (a .sheet) (l .p) (length cells) g = c .before .step .ensures ∙ ap (λ (n : ℕ). stepped (a .sheet) (l .p) n g) (sym size) in
     let w = Gather.waiting-length (a .sheet) (pre .1) (l .p) cells g in
-    let b = Gather.waiting-below (a .sheet) (pre .1) cells g below in
+    let b = Gather.waiting-most (a .sheet) (pre .1) cells g most in
     rw e (
       omega arith,
       rw (← w) b,
       Moves.modest-more (omega arith) (Gather.modest-step (a .sheet) (70 * l .i) (length cells) g (l .p) (omega arith) (v .2)),
-      (waiting (a .sheet) cells g, w, sym (Gather.turn-after (a .sheet) (pre .1) (a .signs .now) (l .i) there (l .p) cells below) ∙ v .3 .2),
+      (waiting (a .sheet) cells g, w, sym (Gather.turn-after (a .sheet) (pre .1) (a .signs .now) (l .i) there (l .p) cells most) ∙ v .3 .2),
     )
 
 flush-requires : tie.Need-flush-requires Inv-loop μ-loop

@@ -1,10 +1,11 @@
--- `pages::measuring::step` meets its contract: a sign that ends a word, the cell that fills the line, a cell that waits.
+-- `pages::measuring::step` meets its contract: a sign that ends a word, the cell that tells that the word is cut, a cell that waits.
 use borrow.Author.Needs.{needs}
-use Prim.Native.Nat.{ℕ, _+_, _^_}
+use Prim.Native.Nat.{ℕ, _^_}
 use mathlib.Core.Path.{sym, _∙_, ap}
 use native.Mathlib.Omega.{arith}
 use borrow.Author.Tests.{eq-eqb, ne-eqb}
-use Rattle.pages.specs.inside.Gather.{afterFormat, stepped}
+use Rattle.pages.specs.Place.{afterWord}
+use Rattle.pages.specs.inside.Gather.{afterFormat, cellsHeld, stepped}
 use Rattle.pages.specs.declared.Gathering.{Gathering}
 use Rattle.pages.specs.declared.Place.{Place}
 use Rattle.pages.proofs.Moves as Moves
@@ -34,12 +35,6 @@ returns c =
     rw (sym (c .before .before .before .ends-word .ensures) ∙ c .before .before .if1 .taken)
     (ap (λ (q : Place). waits q 0) (c .format .ensures ∙ ap (λ (q : Place). afterFormat (a .sheet) q (a .g)) (c .before .flush .ensures)))
 
-add-if2 : tie.Need-add-if2
-add-if2 c = search needs
-
-add-word : tie.Need-add-word
-add-word c = search needs
-
 word-requires : tie.Need-word-requires
 word-requires c κs = search needs
 
@@ -48,18 +43,18 @@ unfolding stepped waits
 returns-2 c =
     let at-test = c .before .before .before in
     let a = at-test .before .before .args in
-    rw (sym (at-test .before .ends-word .ensures) ∙ at-test .if1 .left, eq-eqb (a .n + 1) (a .sheet .width) (c .before .if2 .taken))
-    (ap (λ (q : Place). waits q 0) (c .word .ensures))
+    rw (sym (at-test .before .ends-word .ensures) ∙ at-test .if1 .left, eq-eqb (a .n) (a .sheet .width) (c .before .if2 .taken))
+    (ap (λ (q : Place). waits q cellsHeld) (c .word .ensures ∙ ap (λ (n : ℕ). afterWord (a .sheet) (a .p) n) (c .before .if2 .taken)))
 
-add-t9 : tie.Need-add-t9
-add-t9 c = search needs
+add-t10 : tie.Need-add-t10
+add-t10 c = search needs
 
 returns-3 : tie.Need-returns-3
 unfolding stepped
 returns-3 c =
     let at-test = c .before .before in
     let a = at-test .before .before .args in
-    rw (sym (at-test .before .ends-word .ensures) ∙ at-test .if1 .left, ne-eqb (a .n + 1) (a .sheet .width) (c .if2 .left))
+    rw (sym (at-test .before .ends-word .ensures) ∙ at-test .if1 .left, ne-eqb (a .n) (a .sheet .width) (c .if2 .left))
 
 pub step-spec : {M : Type 1} → statement M
 step-spec =
@@ -69,9 +64,7 @@ step-spec =
     flush-requires
     format-requires
     returns
-    add-if2
-    add-word
     word-requires
     returns-2
-    add-t9
+    add-t10
     returns-3)

@@ -1,16 +1,19 @@
--- `pages::writing::put_sign` meets its contract: a sign that ends a word, the cell that fills the line, a cell that waits, as the laws of a step have it.
+-- `pages::writing::put_sign` meets its contract: a sign that ends a word, the cell that tells that the word is cut, a cell that waits, as the laws of a step have it.
 use borrow.Author.Needs.{needs}
-use Prim.Native.Nat.{ℕ, _+_}
+use Prim.Native.Nat.{ℕ, _-_}
 use mathlib.Core.List.{List, [], _∷_, _++_}
 use mathlib.Core.Path.{_≡_, refl, sym, _∙_, ap}
 use native.Mathlib.Omega.{arith}
-use lib.ListN.{length, set, take, length-set, length-append}
+use lib.ListN.{length, set, take, drop, length-set, length-append}
 use lib.Seq.{length-take-le}
+use Rattle.pages.specs.Numbers.{hyphen}
+use Rattle.pages.specs.Words.{partOf}
 use Rattle.pages.specs.Place.{afterWord}
-use Rattle.pages.specs.inside.Gather.{afterFlush, flushBytes, afterFormat, formatBytes}
+use Rattle.pages.specs.inside.Gather.{afterFlush, flushBytes, afterFormat, formatBytes, cellsHeld}
 use Rattle.pages.specs.declared.Gathering.{Gathering}
 use Rattle.pages.specs.declared.Place.{Place}
 use Rattle.pages.proofs.Moves as Moves
+use Rattle.pages.proofs.Words.{part-length}
 use Rattle.pages.proofs.Steps as Steps
 use Rattle.pages.proofs.writing.put_sign.Statement.{statement}
 use Rattle.pages.proofs.writing.put_sign.Tie as tie
@@ -84,35 +87,52 @@ returns c =
       waits = sym (s .waits);
     }
 
+sub-held : tie.Need-sub-held
+sub-held c = search needs
+
+slice-read-held : tie.Need-slice-read-held
+slice-read-held c = search needs
+
+sub-word : tie.Need-sub-word
+sub-word c = search needs
+
 slice-write-word : tie.Need-slice-write-word
 slice-write-word c = search needs
-
-add-m : tie.Need-add-m
-add-m c = search needs
 
 slice-reshare-prefix-put-word : tie.Need-slice-reshare-prefix-put-word
 slice-reshare-prefix-put-word c = simp length-set (omega arith)
 
 slice-aggregate-put-word : tie.Need-slice-aggregate-put-word
 slice-aggregate-put-word c =
-    let a = c .before .before .before .before .before .before .before .before .args in
-    let l = length-set (a .word .now) (a .n) (a .g) in
-    sym (length-take-le (a .n + 1) (set (a .word .now) (a .n) (a .g)) (omega arith))
+    let start = c .before .before .before .before .before .before .before .before .before in
+    let a = start .args in
+    let pre = start .pre in
+    let l = length-set (a .word .now) (a .n - 1) hyphen in
+    sym (length-take-le (a .n) (set (a .word .now) (a .n - 1) hyphen) (omega arith))
 
 put-word-requires : tie.Need-put-word-requires
 put-word-requires c κs =
-    let filled = c .before .before in
+    let filled = c .before .before .before in
     let at-test = filled .before .before in
     let start = at-test .before .before .before .before in
     let a = start .args in
     let pre = start .pre in
     let cells : List ℕ = take (a .n) (a .word .now) in
     let size : length cells ≡ a .n = length-take-le (a .n) (a .word .now) (omega arith) in
-    let s = Steps.step-full (a .sheet) (a .p) cells (a .n) (a .g) size (sym (at-test .before .ends-word .ensures) ∙ at-test .if1 .left) (filled .if2 .taken) in
-    let m = Steps.one-waits-more (a .word .now) (a .n) (a .g) (omega arith) in
-    let l = length-append cells (a .g ∷ []) in
-    rw m
-    (record { modest = Moves.modest-more (omega arith) (pre .0 .modest); room = rw (s .bytes-are) at (pre .0 .room) }, omega arith)
+    let s = Steps.step-cuts (a .sheet) (a .p) cells (a .n) (a .g) size (sym (at-test .before .ends-word .ensures) ∙ at-test .if1 .left) (filled .if2 .taken) in
+    let m = Steps.cut-part (a .word .now) (a .n) (omega arith) (omega arith) in
+    let k : partOf (a .n) cells ≡ partOf (a .sheet .width) cells = ap (λ (w : ℕ). partOf w cells) (filled .if2 .taken) in
+    let l = part-length (a .n) cells (omega arith) (omega arith) in
+    rw m (
+      record { modest = Moves.modest-more (omega arith) (pre .0 .modest); room = rw k (rw (s .bytes-are) at (pre .0 .room)) },
+      omega arith,
+    )
+
+slice-write-word-2 : tie.Need-slice-write-word-2
+slice-write-word-2 c = simp length-set (omega arith)
+
+slice-write-word-3 : tie.Need-slice-write-word-3
+slice-write-word-3 c = simp length-set (omega arith)
 
 same-length-3 : tie.Need-same-length-3
 same-length-3 c = search needs
@@ -123,25 +143,35 @@ same-length-4 c = search needs
 returns-2 : tie.Need-returns-2
 returns-2 c =
     let placed = c .before .before in
-    let filled = placed .before .before .before in
+    let filled = placed .before .before .before .before in
     let at-test = filled .before .before in
     let start = at-test .before .before .before .before in
     let a = start .args in
     let pre = start .pre in
     let cells : List ℕ = take (a .n) (a .word .now) in
     let size : length cells ≡ a .n = length-take-le (a .n) (a .word .now) (omega arith) in
-    let s = Steps.step-full (a .sheet) (a .p) cells (a .n) (a .g) size (sym (at-test .before .ends-word .ensures) ∙ at-test .if1 .left) (filled .if2 .taken) in
-    let m = Steps.one-waits-more (a .word .now) (a .n) (a .g) (omega arith) in
-    let l : length (cells ++ a .g ∷ []) ≡ a .n + 1 = length-append cells (a .g ∷ []) ∙ ap (λ (k : ℕ). k + 1) size in
+    let s = Steps.step-cuts (a .sheet) (a .p) cells (a .n) (a .g) size (sym (at-test .before .ends-word .ensures) ∙ at-test .if1 .left) (filled .if2 .taken) in
+    let e : a .n ≡ a .sheet .width = filled .if2 .taken in
+    let m = Steps.cut-part (a .word .now) (a .n) (omega arith) (omega arith) in
+    let k : partOf (a .n) cells ≡ partOf (a .sheet .width) cells = ap (λ (w : ℕ). partOf w cells) e in
+    let l : length (partOf (a .n) cells) ≡ a .n = part-length (a .n) cells (omega arith) (omega arith) in
     let f = placed .put-word .ensures in
     record {
       place =
-          ap (λ (r : Place). waits r 0)
-          (f .place ∙ ap (λ (r : List ℕ). afterWord (a .sheet) (a .p) (length r)) m ∙ ap (λ (k : ℕ). afterWord (a .sheet) (a .p) k) l)
+          ap (λ (r : Place). waits r cellsHeld)
+          (f .place ∙ ap (λ (r : List ℕ). afterWord (a .sheet) (a .p) (length r)) m ∙ ap (λ (j : ℕ). afterWord (a .sheet) (a .p) j) (l ∙ e))
           ∙ sym (s .moved);
-      wrote = rw (s .bytes-are) (rw m at (f .wrote));
-      waits = sym (s .waits);
+      wrote = rw (s .bytes-are) (rw (m ∙ k) at (f .wrote));
+      waits =
+          Steps.cut-waits (a .word .now) (a .n) (omega arith) (omega arith) (a .g)
+          ∙ ap (λ (w : ℕ). drop (w - 1) cells ++ a .g ∷ []) e ∙ sym (s .waits);
     }
+
+slice-write-word-4 : tie.Need-slice-write-word-4
+slice-write-word-4 c = search needs
+
+add-t30 : tie.Need-add-t30
+add-t30 c = search needs
 
 same-length-5 : tie.Need-same-length-5
 same-length-5 c = search needs
@@ -170,13 +200,19 @@ put-sign-spec =
     same-length
     same-length-2
     returns
+    sub-held
+    slice-read-held
+    sub-word
     slice-write-word
-    add-m
     slice-reshare-prefix-put-word
     slice-aggregate-put-word
     put-word-requires
+    slice-write-word-2
+    slice-write-word-3
     same-length-3
     same-length-4
     returns-2
+    slice-write-word-4
+    add-t30
     same-length-5
     returns-3)

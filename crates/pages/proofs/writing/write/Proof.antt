@@ -40,7 +40,7 @@ put-sign-requires c κs =
     let z : Sized (a .sheet) (a .signs .now) (a .out .now) = record { most = pre .0; wide = pre .1; narrow = pre .2; room = pre .3 } in
     let v = c .before .before .before .before .loop .inv in
     let b = v .buffer in
-    (sign-room z v (c .before .before .before .loop-test .taken), v .below, pre .2, omega arith)
+    (sign-room z v (c .before .before .before .loop-test .taken), v .below, pre .1, pre .2, omega arith)
 
 add-i : tie.Need-add-i Inv-loop μ-loop
 add-i c = omega arith
