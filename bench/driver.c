@@ -34,15 +34,20 @@ enum {
     CALLS = sizeof calls / sizeof calls[0],
     PROVED = 0,
     MOST_MEASURED = 32,
-    MOST_IMAGE = 23505,
+    MOST_IMAGE = 28301,
     MOST_TEXT = 16384,
     ROOM = 160000,
     FOLLOWING = ' ',
+    YEAR = 1970,
+    FIRST_YEAR = 1932,
+    LAST_YEAR = 2015,
     TEXT_BYTES = 262144,
     WIDTH = 38,
     PAGE = 25,
     ROUNDS = 40,
     ENTRY = 18,
+    DATED_ENTRY = 22,
+    DATED = 52,
     MOST_ENTRIES = 1199,
 };
 
@@ -74,6 +79,7 @@ struct input {
     const uint8_t *text;
     uint64_t text_length;
     uint8_t following;
+    uint16_t year;
     uint64_t width, page, room;
 };
 
@@ -86,8 +92,8 @@ static double run(int c, const struct input *in)
 {
     double began = now();
 
-    calls[c].call(in->image, in->image_length, in->text, in->text_length, in->following, in->width, in->page, out[c], in->room,
-                  answer[c]);
+    calls[c].call(in->image, in->image_length, in->text, in->text_length, in->following, in->year, in->width, in->page,
+                  out[c], in->room, answer[c]);
     return now() - began;
 }
 
@@ -99,15 +105,15 @@ static void compare(const struct input *in, uint64_t bytes)
     for (c = 1; c < CALLS; c++) {
         for (i = 0; i < VALUES; i++)
             if (answer[c][i] != answer[PROVED][i])
-                fail("a difference: value %d of the answer is %llu, and of '%s' %llu (text of %llu bytes, followed by %u, W %llu, P %llu, "
-                     "room %llu)",
+                fail("a difference: value %d of the answer is %llu, and of '%s' %llu (text of %llu bytes, followed by %u, year %u, W %llu, "
+                     "P %llu, room %llu)",
                      i, (unsigned long long)answer[PROVED][i], calls[c].name, (unsigned long long)answer[c][i],
-                     (unsigned long long)in->text_length, in->following, (unsigned long long)in->width, (unsigned long long)in->page,
-                     (unsigned long long)in->room);
+                     (unsigned long long)in->text_length, in->following, in->year, (unsigned long long)in->width,
+                     (unsigned long long)in->page, (unsigned long long)in->room);
         if (memcmp(out[c], out[PROVED], bytes) != 0)
-            fail("a difference: the output of '%s' (text of %llu bytes, followed by %u, W %llu, P %llu, room %llu)", calls[c].name,
-                 (unsigned long long)in->text_length, in->following, (unsigned long long)in->width, (unsigned long long)in->page,
-                 (unsigned long long)in->room);
+            fail("a difference: the output of '%s' (text of %llu bytes, followed by %u, year %u, W %llu, P %llu, room %llu)", calls[c].name,
+                 (unsigned long long)in->text_length, in->following, in->year, (unsigned long long)in->width,
+                 (unsigned long long)in->page, (unsigned long long)in->room);
     }
     compared++;
 }
@@ -310,7 +316,7 @@ static uint64_t section_end(uint64_t at, uint64_t most)
 
 static struct input input(const uint8_t *table, uint64_t length, const uint8_t *lent, uint64_t n)
 {
-    struct input in = {table, length, lent, n, FOLLOWING, WIDTH, PAGE, ROOM};
+    struct input in = {table, length, lent, n, FOLLOWING, YEAR, WIDTH, PAGE, ROOM};
     return in;
 }
 
@@ -386,38 +392,104 @@ static uint64_t make_table(int n, uint8_t *made)
     return length;
 }
 
-/* ---- The twin is a twin: each refusal, at every byte of the table and at the limits, and each symbol that can follow */
+/* ---- Tables in the dated form */
 
-static void compare_refusals(const struct input *sound)
+static void put_two_bytes(uint8_t *p, unsigned number)
 {
-    static const uint64_t widths[] = {0, 7, 8, 9, 60, 61, UINT64_MAX}, pages[] = {0, 1, 2, 3, 40, 41, UINT64_MAX};
-    static uint8_t damaged[MOST_IMAGE + 1], lent[MOST_TEXT + 1];
-    uint64_t entries = start(image, image_length, 1), needed, i, j;
+    p[0] = number % 256;
+    p[1] = number / 256;
+}
+
+/* The years of entry k: for the times the same, which hold YEAR; to compare, always, that year
+   alone, from the next on, up to the one before. */
+static void put_years(uint8_t *p, int k, int varied)
+{
+    static const unsigned first[] = {0, YEAR, YEAR + 1, 0}, last[] = {65535, YEAR, 65535, YEAR - 1};
+
+    put_two_bytes(p, varied ? first[k % 4] : FIRST_YEAR);
+    put_two_bytes(p + 2, varied ? last[k % 4] : LAST_YEAR);
+}
+
+/* The dated form of an image in the old form. */
+static uint64_t make_dated(const uint8_t *old, uint64_t old_length, int varied, uint8_t *made)
+{
+    uint64_t before = start(old, old_length, 1), after = start(old, old_length, 2), at = before, i, length;
+    int k = 0;
+
+    memcpy(made, old, before);
+    for (i = before; i < after; i += ENTRY, at += DATED_ENTRY) {
+        memcpy(made + at, old + i, ENTRY);
+        put_years(made + at + ENTRY, k++, varied);
+    }
+    memcpy(made + at, old + after, old_length - after);
+    length = at + old_length - after;
+    for (k = 0; k < 2; k++)
+        put_two_bytes(made + length - 14 + 2 * k, distance(old, old_length, k) + (at - after));
+    made[length - 1] = DATED;
+    return length;
+}
+
+/* ---- The twin is a twin: each refusal, at every byte of a table of either form and at the limits,
+   each symbol that can follow, years at the edges of entries' years */
+
+/* A table with each of its bytes changed, cut short at each of them, and with neighbouring entries
+   exchanged. */
+static void compare_tables(const struct input *sound)
+{
+    static uint8_t damaged[MOST_IMAGE + 1];
+    const uint8_t *whole = sound->image;
+    uint64_t length = sound->image_length, i, j;
+    uint64_t entry = whole[length - 1] == DATED ? DATED_ENTRY : ENTRY;
     struct input in = *sound;
-    uint8_t swapped[ENTRY];
 
     lend();
     in.text_length = 200;
     in.image = damaged;
-    memcpy(damaged, image, image_length);
-    for (i = 0; i < image_length; i++) {
+    memcpy(damaged, whole, length);
+    for (i = 0; i < length; i++) {
         for (j = 1; j < 256; j = 3 * j + 1) {
-            damaged[i] = image[i] ^ j;
+            damaged[i] = whole[i] ^ j;
             check(&in);
         }
-        damaged[i] = image[i];
+        damaged[i] = whole[i];
         in.image_length = i;
         check(&in);
-        in.image_length = image_length;
+        in.image_length = length;
     }
-    for (i = entries; i + 2 * ENTRY <= start(image, image_length, 2); i += ENTRY) {
-        memcpy(swapped, image + i, ENTRY);
-        memcpy(damaged + i, image + i + ENTRY, ENTRY);
-        memcpy(damaged + i + ENTRY, swapped, ENTRY);
+    for (i = start(whole, length, 1); i + 2 * entry <= start(whole, length, 2); i += entry) {
+        memcpy(damaged + i, whole + i + entry, entry);
+        memcpy(damaged + i + entry, whole + i, entry);
         check(&in);
-        memcpy(damaged + i, image + i, 2 * ENTRY);
+        memcpy(damaged + i, whole + i, 2 * entry);
     }
-    in = *sound;
+}
+
+static void compare_years(const struct input *old)
+{
+    static const uint16_t years[] = {0, 1, YEAR - 1, YEAR, YEAR + 1, 65534, 65535};
+    static uint8_t made[MOST_IMAGE + 1];
+    struct input in = *old;
+    unsigned i;
+
+    in.image = made;
+    in.image_length = make_dated(old->image, old->image_length, 1, made);
+    compare_tables(&in);
+    for (i = 0; i < sizeof years / sizeof years[0]; i++) {
+        in.year = years[i];
+        lend();
+        check(&in);
+    }
+}
+
+static void compare_refusals(const struct input *sound)
+{
+    static const uint64_t widths[] = {0, 7, 8, 9, 60, 61, UINT64_MAX}, pages[] = {0, 1, 2, 3, 40, 41, UINT64_MAX};
+    static uint8_t lent[MOST_TEXT + 1];
+    uint64_t needed, i, j;
+    struct input in = *sound;
+
+    compare_tables(sound);
+    compare_years(sound);
     in.text_length = 2000;
     for (i = 0; i < sizeof widths / sizeof widths[0]; i++)
         for (j = 0; j < sizeof pages / sizeof pages[0]; j++) {
@@ -528,6 +600,59 @@ static void growing_table(void)
     printf("\n");
 }
 
+/* The inputs again by the same table in the dated form, whose entries are all in force: the bytes
+   are to be the same. Then the check alone of both forms, by W 7. */
+static void form_beside_form(const char *name, const struct input *old, int count)
+{
+    static struct input dated[TEXT_BYTES / 1024];
+    static uint8_t made[MOST_IMAGE + 1], printed[ROOM];
+    uint64_t bytes = 0, length = make_dated(old[0].image, old[0].image_length, 0, made), values[VALUES];
+    struct times *t[4];
+    struct input check_old = old[0], check_dated;
+    int i;
+
+    for (i = 0; i < count; i++) {
+        dated[i] = old[i];
+        dated[i].image = made;
+        dated[i].image_length = length;
+        bytes += old[i].text_length;
+        lend();
+        check(&old[i]);
+        memcpy(printed, out[PROVED], ROOM);
+        memcpy(values, answer[PROVED], sizeof values);
+        lend();
+        check(&dated[i]);
+        if (values[NUMBER] != 0 || memcmp(values, answer[PROVED], sizeof values) != 0 || memcmp(printed, out[PROVED], ROOM) != 0)
+            fail("section %d of the text isn't printed alike by both forms of the table '%s'", i, name);
+    }
+    check_old.width = 7;
+    check_dated = check_old;
+    check_dated.image = made;
+    check_dated.image_length = length;
+    t[0] = measure(old, count, ROUNDS);
+    t[1] = measure(dated, count, ROUNDS);
+    t[2] = measure(&check_old, 1, 3 * ROUNDS);
+    t[3] = measure(&check_dated, 1, 3 * ROUNDS);
+    for (i = 0; i < 2; i++)
+        printf("  %-10s %-6s %14.1f %10.2f %10.1f %10.2f %15.1f %10.2f\n", name, i ? "dated" : "old", t[i]->best[PROVED] / bytes,
+               t[i]->best[PROVED] / t[0]->best[PROVED], fastest(t[i]) / bytes, fastest(t[i]) / fastest(t[0]), t[2 + i]->best[PROVED] / 1e3,
+               t[2 + i]->best[PROVED] / t[2]->best[PROVED]);
+}
+
+static void both_forms(const struct input *sections, int count)
+{
+    static uint8_t made[MOST_IMAGE + 1];
+    struct input largest = input(made, make_table(MOST_ENTRIES, made), text, section_end(0, MOST_TEXT));
+
+    printf("Both forms of a table, each beside the old one: all entries of the dated form are from %d to %d, the year asked is %d\n\n",
+           FIRST_YEAR, LAST_YEAR, YEAR);
+    printf("  %-10s %-6s %14s %10s %10s %10s %15s %10s\n", "table", "form", "proved ns/char", "to old", "C ns/char", "to old",
+           "check alone, us", "to old");
+    form_beside_form("English", sections, count);
+    form_beside_form("1,199", &largest, 1);
+    printf("\n");
+}
+
 /* W 7 is out of its limits, so that such a call judges the table and does nothing else. */
 static void share_of_check(const char *name, const uint8_t *table, uint64_t length)
 {
@@ -588,6 +713,7 @@ int main(int words, char **word)
     growing_text();
     growing_table();
     shares();
+    both_forms(sections, count);
     printf("Compared in each placement: %ld inputs, six values and every output byte, no difference\n", compared);
     write_times(word[1]);
     return 0;

@@ -1,7 +1,11 @@
-/* The whole call, as the archive of crates/press defines it, and its twin in C. A slice crosses as an address that is never null and a
-   length. The bytes at out and answer are lent as nothing else in the same call. The sheet crosses as two numbers: width is W, the cells
-   of a line, and length is P, the lines of a page. The symbol that follows the text crosses as itself: the first character of the section
-   that comes after, or a blank where none does. It is only looked at. Lengths have 64 bits: both are for x86-64 alone. */
+/* The whole call, as the archive of crates/press defines it, and its twin in C. A slice crosses as
+   an address that is never null and a length. The bytes at out and answer are lent as nothing else
+   in the same call. The sheet crosses as two numbers: width is W, the cells of a line, and length
+   is P, the lines of a page. The symbol that follows the text crosses as itself: the first
+   character of the section that comes after, or a blank where none does. It is only looked at. The
+   year is that of the code to print by: by a table in the dated form entries outside their years
+   are passed over, by one in the old form every year prints alike. Lengths have 64 bits: both are
+   for x86-64 alone. */
 #ifndef PRESS_H
 #define PRESS_H
 
@@ -11,9 +15,9 @@
 enum { NUMBER, PLACE, WRITTEN, PIECES, LINES, PAGES, VALUES };
 
 typedef void emboss_call(const uint8_t *image, uint64_t image_length, const uint8_t *text, uint64_t text_length, uint8_t following,
-                         uint64_t width, uint64_t length, uint8_t *out, uint64_t out_length, uint64_t answer[VALUES]);
+                         uint16_t year, uint64_t width, uint64_t length, uint8_t *out, uint64_t out_length, uint64_t answer[VALUES]);
 
-/* The proved call. It needs 81,000 bytes of stack, whatever it is asked (bench/stack): a thread that calls it wants 96 KiB at least. */
+/* The proved call. It needs 83,000 bytes of stack, whatever it is asked (bench/stack): a thread that calls it wants 96 KiB at least. */
 extern emboss_call tlopahuexi_emboss;
 
 /* The same algorithm in C; a driver may hold it several times, each compiled in another way and under another name. */

@@ -2,6 +2,7 @@
    changed is the depth. What the thread itself needs is measured with a call of an empty function and taken off. The
    declarations are written out, so that it can be compiled for x86-64 where no headers for that are. */
 typedef unsigned char byte;
+typedef unsigned short two_bytes;
 typedef unsigned long size;
 
 extern int printf(const char *form, ...);
@@ -13,8 +14,8 @@ extern int pthread_attr_setstack(void *attr, void *at, size bytes);
 extern int pthread_create(void *thread, const void *attr, void *(*run)(void *), void *given);
 extern int pthread_join(unsigned long thread, void **answer);
 
-extern void tlopahuexi_emboss(const byte *image, size image_length, const byte *text, size text_length, byte following, size width,
-                              size length, byte *out, size out_length, unsigned long answer[6]);
+extern void tlopahuexi_emboss(const byte *image, size image_length, const byte *text, size text_length, byte following, two_bytes year,
+                              size width, size length, byte *out, size out_length, unsigned long answer[6]);
 
 enum { STACK = 1 << 20, MOST = 65536 };
 
@@ -30,7 +31,7 @@ static void *nothing(void *given)
 
 static void *call(void *given)
 {
-    tlopahuexi_emboss(image, image_length, text, text_length, ' ', 60, 40, out, sizeof out, answer);
+    tlopahuexi_emboss(image, image_length, text, text_length, ' ', 1970, 60, 40, out, sizeof out, answer);
     return given;
 }
 

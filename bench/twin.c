@@ -18,6 +18,10 @@ struct sections {
     uint16_t classes, variables;
 };
 
+/* The trailer's last byte, and the bytes of a contraction record, in the old form and in the dated
+   one. */
+enum { OLD = 51, DATED = 52, ENTRY = 18, DATED_ENTRY = 22 };
+
 static size number_at(const uint8_t *p)
 {
     return p[0] + 256 * (size)p[1];
@@ -25,7 +29,7 @@ static size number_at(const uint8_t *p)
 
 static int trailer_right(const uint8_t *trailer)
 {
-    return trailer[12] == 66 && trailer[13] == 51 && 1 <= trailer[10] && trailer[10] <= 40 && trailer[11] <= 15;
+    return trailer[12] == 66 && (trailer[13] == OLD || trailer[13] == DATED) && 1 <= trailer[10] && trailer[10] <= 40 && trailer[11] <= 15;
 }
 
 static int distances_right(const size *d, size at)
@@ -62,7 +66,7 @@ static struct sections locate(const uint8_t *image, size length)
     s.classes = image[at + 10];
     s.variables = image[at + 11];
     s.alphabet = section_of(at, d[0], d[1], 3);
-    s.contractions = section_of(at, d[1], d[2], 18);
+    s.contractions = section_of(at, d[1], d[2], image[at + 13] == DATED ? DATED_ENTRY : ENTRY);
     s.contexts = section_of(at, d[2], d[3], 4);
     s.transitions = section_of(at, d[3], d[4], s.classes);
     s.decisions = section_of(at, d[4], d[5], s.classes + s.variables);
@@ -213,7 +217,9 @@ static int entry_wrong(const uint8_t *r, const struct sections *s, const uint16_
     if (r[13] < 1 || r[0] < r[13])
         return 13;
     i = signs_wrong(r + 14);
-    return i >= 0 ? 14 + i : -1;
+    if (i >= 0)
+        return 14 + i;
+    return s->contractions.size == DATED_ENTRY && number_at(r + 20) < number_at(r + 18) ? 18 : -1;
 }
 
 static int decision_wrong(const uint8_t *r, const struct sections *s)
@@ -549,7 +555,18 @@ static int begins(const uint8_t *r, const uint8_t *rest, size left)
     return starts(r + 1, r[0], rest, left);
 }
 
-static int context_holds(const uint8_t *image, const struct sections *s, uint8_t following, const uint8_t *r, const uint8_t *rest, size left)
+/* What translation is told besides the table and the text. */
+struct setting {
+    uint8_t following;
+    uint16_t year;
+};
+
+static int in_force(const struct sections *s, struct setting set, const uint8_t *r)
+{
+    return s->contractions.size == ENTRY || (number_at(r + 18) <= set.year && set.year <= number_at(r + 20));
+}
+
+static int context_holds(const uint8_t *image, const struct sections *s, struct setting set, const uint8_t *r, const uint8_t *rest, size left)
 {
     const uint8_t *classes;
     uint8_t c;
@@ -557,7 +574,7 @@ static int context_holds(const uint8_t *image, const struct sections *s, uint8_t
 
     if (r[11] == 0)
         return 1;
-    c = class_of(image, s, r[0] < left ? rest[r[0]] : following);
+    c = class_of(image, s, r[0] < left ? rest[r[0]] : set.following);
     classes = record(image, &s->contexts, r[11] - 1);
     for (i = 0; i < 4; i++)
         if (classes[i] == c)
@@ -565,14 +582,14 @@ static int context_holds(const uint8_t *image, const struct sections *s, uint8_t
     return 0;
 }
 
-static int admits(const uint8_t *image, const struct sections *s, uint8_t following, const struct states *states, const uint8_t *r,
+static int admits(const uint8_t *image, const struct sections *s, struct setting set, const struct states *states, const uint8_t *r,
                   const uint8_t *rest, size left)
 {
-    return begins(r, rest, left) && context_holds(image, s, following, r, rest, left) && decide(image, s, states, r[12]);
+    return begins(r, rest, left) && in_force(s, set, r) && context_holds(image, s, set, r, rest, left) && decide(image, s, states, r[12]);
 }
 
 /* The first admissible entry, or null. */
-static const uint8_t *search(const uint8_t *image, const struct sections *s, uint8_t following, const struct states *states,
+static const uint8_t *search(const uint8_t *image, const struct sections *s, struct setting set, const struct states *states,
                              const uint8_t *rest, size left)
 {
     const uint8_t *r = image + s->contractions.start;
@@ -580,7 +597,7 @@ static const uint8_t *search(const uint8_t *image, const struct sections *s, uin
     uint8_t first = rest[0];
 
     for (k = 0; k < n; k++, r += step)
-        if (r[1] == first && admits(image, s, following, states, r, rest, left))
+        if (r[1] == first && admits(image, s, set, states, r, rest, left))
             return r;
     return 0;
 }
@@ -599,7 +616,7 @@ struct counts {
     size pieces, signs;
 };
 
-static struct counts consume(const uint8_t *image, const struct sections *s, uint8_t following, const uint8_t *text, size length,
+static struct counts consume(const uint8_t *image, const struct sections *s, struct setting set, const uint8_t *text, size length,
                              uint8_t *signs)
 {
     struct states states = {{0}};
@@ -610,7 +627,7 @@ static struct counts consume(const uint8_t *image, const struct sections *s, uin
     int i;
 
     while (at < length) {
-        r = search(image, s, following, &states, text + at, length - at);
+        r = search(image, s, set, &states, text + at, length - at);
         if (r) {
             for (i = 0; i < 4; i++)
                 n.signs = print(r[14 + i], signs, n.signs);
@@ -913,10 +930,11 @@ static void fill(const uint8_t *signs, struct counts n, size width, size page, u
     answer[PAGES] = end.pages;
 }
 
-void TWIN(const uint8_t *image, uint64_t image_length, const uint8_t *text, uint64_t text_length, uint8_t following, uint64_t width,
-          uint64_t page, uint8_t *out, uint64_t room, uint64_t answer[VALUES])
+void TWIN(const uint8_t *image, uint64_t image_length, const uint8_t *text, uint64_t text_length, uint8_t following, uint16_t year,
+          uint64_t width, uint64_t page, uint8_t *out, uint64_t room, uint64_t answer[VALUES])
 {
     uint8_t signs[65536], collapsed[16384];
+    struct setting set = {following, year};
     struct sections s = locate(image, image_length);
     struct fault fault = verdict_on(image, &s);
     int64_t unknown;
@@ -944,5 +962,5 @@ void TWIN(const uint8_t *image, uint64_t image_length, const uint8_t *text, uint
         store(answer, 15, 0);
         return;
     }
-    fill(signs, consume(image, &s, following, collapsed, n, signs), width, page, out, room, answer);
+    fill(signs, consume(image, &s, set, collapsed, n, signs), width, page, out, room, answer);
 }

@@ -17,7 +17,8 @@ counted! {
     /// Something that happened on the way to an answer.
     Event, EVENT_WORDS {
         UnderTrailer: "images under 14 bytes",
-        AloneMark: "wrong alone: the trailer's last two bytes",
+        AloneMark: "wrong alone: the trailer's last two bytes, of neither form",
+        AloneForm: "wrong alone: the form, which a mover doesn't take",
         AloneClasses: "wrong alone: the number of classes",
         AloneVariables: "wrong alone: the number of state variables",
         AloneFirstDistance: "wrong alone: the first distance",
@@ -42,6 +43,9 @@ counted! {
         AloneShift: "wrong alone: a shift",
         AloneSign: "wrong alone: a sign of an entry",
         AloneAfter99: "wrong alone: a sign after a 99",
+        AloneYearsLow: "wrong alone: a first year after the last by its low byte",
+        AloneYearsHigh: "wrong alone: a first year after the last by its high byte",
+        AloneYearsHighAgainstLow: "wrong alone: a first year after the last by its high byte, though its low byte is lower",
         AloneContextClass: "wrong alone: a class of a right context",
         AloneTransitionByte: "wrong alone: a transition byte",
         AloneVariableByte: "wrong alone: a decision byte for a variable",
@@ -61,12 +65,33 @@ counted! {
         FirstTransitionByte: "first of several wrong bytes: a transition byte",
         FirstClassByte: "first of several wrong bytes: a decision byte for a class",
         FirstVariableByte: "first of several wrong bytes: a decision byte for a variable",
+        YearsNotFirst: "first years after the last where another byte of the record is wrong",
         WrongLater: "wrong records after a right one of their section",
         WrongInTwoSections: "wrong records in two sections",
         UnknownAndFollowing: "refused 7 where the following symbol is not in the alphabet",
         FollowingAndRoom: "refused 15 where the output is too short",
         FollowingUnasked: "refused 15 where no entry has a right context",
         FollowingNothing: "refused 15 where the text is empty",
+        GroupedInForce: "refused 4 where the entries in force are grouped",
+        OtherBreakInForce: "refused 4 where the entries in force break the grouping at a later record",
+        OtherFormToDate: "dating refused for a right table of the dated form",
+        OtherFormToUndate: "moving back refused for a right table of the old form",
+        OtherFormDated: "dating refused for a dated table with a dated record",
+        OtherFormAndRoom: "moving refused for the form where the output is too short",
+        OtherFormAndWrong: "moving refused for the form where the table is wrong besides",
+        WrongAndDated: "moving back refused for a wrong table where a record is dated",
+        DatedAndRoom: "refused 17 where the output is too short",
+        DatedRecordOnly: "refused 17 at the only record",
+        DatedRecordFirst: "refused 17 at the first record of several",
+        DatedRecordBetween: "refused 17 at a record between the first and the last",
+        DatedRecordLast: "refused 17 at the last record of several",
+        DatedByFirstYear: "refused 17 for the first year alone",
+        DatedByLastYear: "refused 17 for the last year alone",
+        DatedByBoth: "refused 17 for both years",
+        DatedByByte18: "refused 17 for the low byte of the first year alone",
+        DatedByByte19: "refused 17 for the high byte of the first year alone",
+        DatedByByte20: "refused 17 for the low byte of the last year alone",
+        DatedByByte21: "refused 17 for the high byte of the last year alone",
         FullAlphabet: "tables of 63 alphabet records",
         FullContractions: "tables of 1,199 entries",
         FullContexts: "tables of 5 right contexts",
@@ -75,6 +100,15 @@ counted! {
         FullClasses: "tables of 40 classes",
         NoEntry: "tables of no entry",
         NoColumn: "tables of no decision column",
+        DatedForm: "tables of the dated form",
+        DatedFull: "tables of the dated form of 1,199 entries",
+        DatedNoEntry: "tables of the dated form of no entry",
+        DatedNoneInForce: "tables of which no entry is in force",
+        DatedOneYear: "tables with an entry of one year",
+        MovedDate: "tables moved to the dated form",
+        MovedUndate: "tables moved back to the old form",
+        MovedNoEntry: "tables of no entry moved",
+        MovedFull: "tables of 1,199 entries moved",
         FullText: "texts of 16,384 bytes",
         BarDropped: "bars dropped",
         LineFeedTurned: "line feeds turned into blanks",
@@ -82,6 +116,18 @@ counted! {
         SecondBlankKept: "second blanks kept after a period",
         EntryPiece: "pieces of an entry",
         AlphabetPiece: "pieces of an alphabet record",
+        YearBeforeFirst: "strings met in the year before the entry's first",
+        YearFirst: "strings met in the entry's first year",
+        YearLast: "strings met in the entry's last year",
+        YearAfterLast: "strings met in the year after the entry's last",
+        YearOnly: "strings met in the entry's only year",
+        YearsNotYet: "entries passed over whose years have not begun",
+        YearsOver: "entries passed over whose years are over",
+        Year0: "strings of entries with a last year met in year 0",
+        Year65535: "strings of entries with a first year met in year 65,535",
+        PassedForLetter: "pieces of an alphabet record where an entry is passed over",
+        PassedForSame: "pieces of an entry where one of the same string is passed over",
+        PassedForOther: "pieces of an entry where one of another string is passed over",
         ContextRejects: "entries rejected by their right context",
         ContextAtEnd: "right contexts asked past the end of the text",
         FollowingHeld: "right contexts that hold the following symbol's class and not the blank's",
@@ -150,7 +196,7 @@ impl Notes {
 
     /// Only what was wrong, for a case that was refused.
     pub fn add_refused(&mut self, other: &Notes) {
-        for event in 0..=Event::FollowingNothing as usize {
+        for event in 0..=Event::DatedByByte21 as usize {
             self.counts[event] += other.counts[event];
         }
     }
@@ -161,6 +207,12 @@ impl Notes {
         if index > 0 {
             self.note(Event::WrongLater);
         }
+        let of_years = |rule: &Event| {
+            [Event::AloneYearsLow, Event::AloneYearsHigh, Event::AloneYearsHighAgainstLow].contains(rule)
+        };
+        if wrong.len() > 1 && wrong.iter().any(|(_, rule)| of_years(rule)) {
+            self.note(Event::YearsNotFirst);
+        }
         let (first, rule) = wrong.iter().copied().min_by_key(|(byte, _)| *byte).expect("a byte is wrong");
         if wrong.iter().all(|(_, other)| *other == rule) {
             self.note(rule);
@@ -168,6 +220,49 @@ impl Notes {
         let alone_there = wrong.iter().filter(|(byte, _)| *byte == first).count() == 1;
         if alone_there && wrong.len() > 1 {
             self.note(first_of_several(rule));
+        }
+    }
+
+    /// Notes of the first dated record, number `index` of so many, where it stands and by what it
+    /// is dated.
+    pub fn dated_record(&mut self, index: usize, records: usize, (first, last): (u16, u16)) {
+        self.note(match (index, records - 1 - index) {
+            (0, 0) => Event::DatedRecordOnly,
+            (0, _) => Event::DatedRecordFirst,
+            (_, 0) => Event::DatedRecordLast,
+            _ => Event::DatedRecordBetween,
+        });
+        self.note(match (first, last) {
+            (_, 65_535) => Event::DatedByFirstYear,
+            (0, _) => Event::DatedByLastYear,
+            _ => Event::DatedByBoth,
+        });
+        let ([a, b], [c, d]) = (first.to_le_bytes(), last.to_le_bytes());
+        match [a != 0, b != 0, c != 255, d != 255] {
+            [true, false, false, false] => self.note(Event::DatedByByte18),
+            [false, true, false, false] => self.note(Event::DatedByByte19),
+            [false, false, true, false] => self.note(Event::DatedByByte20),
+            [false, false, false, true] => self.note(Event::DatedByByte21),
+            _ => (),
+        }
+    }
+
+    /// Notes of an entry whose string begins the rest how the year that is asked lies to its years.
+    pub fn year_of_entry(&mut self, year: u16, (first, last): (u16, u16)) {
+        let (begins, ends) = (first > 0, last < 65_535);
+        let events = [
+            (Event::YearBeforeFirst, begins && year == first - 1),
+            (Event::YearFirst, begins && year == first),
+            (Event::YearLast, ends && year == last),
+            (Event::YearAfterLast, ends && year == last + 1),
+            (Event::YearOnly, first == last && year == first),
+            (Event::YearsNotYet, year < first),
+            (Event::YearsOver, year > last),
+            (Event::Year0, ends && year == 0),
+            (Event::Year65535, begins && year == 65_535),
+        ];
+        for (event, _) in events.iter().filter(|(_, met)| *met) {
+            self.note(*event);
         }
     }
 

@@ -1,11 +1,12 @@
-//! Random cases from a seed: sound tables and damaged ones, texts dense in the table's own strings,
-//! words about as wide as a line or as some, symbols that follow the texts, widths and page lengths
-//! across and beyond their limits, output rooms around what is needed. The same seed gives the same
-//! case on every machine. Most cases are small; a few reach every limit.
+//! Random cases from a seed: sound tables and damaged ones, of both forms, years at every edge of
+//! their entries', texts dense in the table's own strings, words about as wide as a line or as
+//! some, symbols that follow the texts, widths and page lengths across and beyond their limits,
+//! tables to be moved from one form to the other, output rooms around what is needed. The same seed
+//! gives the same case on every machine. Most cases are small; a few reach every limit.
 
 use crate::counts::Notes;
-use crate::reference::{emboss, Asked};
-use crate::table::{Entry, Table};
+use crate::reference::{emboss_planted, move_table, Answer, Asked, Planted, Way};
+use crate::table::{Entry, Table, ALWAYS};
 
 /// The limits that the byte form of a case sets.
 pub const LARGEST_IMAGE: usize = 65_536;
@@ -15,22 +16,49 @@ pub const LARGEST_ROOM: usize = 163_840;
 /// Tables of this many entries and more have an alphabet of more than the blank and the period.
 const MANY_ENTRIES: usize = 41;
 
+/// What is asked: the whole call, or to move the table from one form to the other. A mover doesn't
+/// look at text, following symbol, year and sizes.
+#[derive(Clone, Copy, Debug, PartialEq, Eq)]
+pub enum Question {
+    Emboss = 0,
+    Date = 1,
+    Undate = 2,
+}
+
+impl Question {
+    /// The question of a number in the byte form of a case.
+    pub fn of(number: usize) -> Option<Question> {
+        [Question::Emboss, Question::Date, Question::Undate].get(number).copied()
+    }
+}
+
 /// What is lent to one call.
 #[derive(Clone, Debug)]
 pub struct Case {
     pub seed: u64,
     pub kinds: Vec<Kind>,
+    pub question: Question,
     pub image: Vec<u8>,
     pub text: Vec<u8>,
     pub following: u8,
+    pub year: u16,
     pub w: u64,
     pub p: u64,
     pub room: usize,
 }
 
 impl Case {
-    pub fn asked(&self) -> Asked<'_> {
-        Asked { image: &self.image, text: &self.text, following: self.following, w: self.w, p: self.p }
+    /// The reference's answer, with an error planted or with none.
+    pub fn answer(&self, planted: Planted, out: &mut [u8], notes: &mut Notes) -> Answer {
+        let Case { following, year, w, p, .. } = *self;
+        let (image, text) = (&self.image[..], &self.text[..]);
+        match self.question {
+            Question::Emboss => {
+                emboss_planted(planted, Asked { image, text, following, year, w, p }, out, notes)
+            }
+            Question::Date => move_table(planted, Way::Date, image, out, notes),
+            Question::Undate => move_table(planted, Way::Undate, image, out, notes),
+        }
     }
 }
 
@@ -77,8 +105,16 @@ pub fn case_seed(seed: u64, number: u64) -> u64 {
 }
 
 counted! {
-    /// What a case is made of: one kind of table, image, text, following symbol, size and room each.
+    /// What a case is made of: one kind of question, table, image, text, following symbol, year,
+    /// size and room each.
     Kind, KIND_WORDS {
+        AskedEmboss: "the whole call asked",
+        AskedDate: "tables to be moved to the dated form",
+        AskedUndate: "tables to be moved back to the old form",
+        OldForm: "tables of the old form",
+        DatedMixed: "tables of the dated form, entries with years and without",
+        DatedAlways: "tables of the dated form whose entries are all always in force",
+        DatedOne: "tables of the dated form of which one entry has years",
         SmallTable: "tables of 0 to 8 entries",
         MiddleTable: "tables of 9 to 40 entries",
         LargeTable: "tables of 41 to 300 entries",
@@ -89,6 +125,13 @@ counted! {
         NoBlankUngrouped: "images without one and with entries in any order",
         WrongEntry: "images with a field of an entry on its limit or beyond",
         WrongLetter: "images with a field of a letter on its limit or beyond",
+        WrongYears: "images with the years of an entry on their limit or beyond",
+        AnyOrder: "images with entries in any order",
+        UngroupedByOthers: "images whose grouping an entry breaks that is not in force",
+        OldAsDated: "images of 18-byte records that end in 52",
+        DatedAsOld: "images of 22-byte records that end in 51",
+        OtherMarkWhole: "images whose records are whole by the other form's size too",
+        OtherMarkNoEntry: "images of no entry with the other form's mark",
         WrongRule: "images with another byte in a context, transition or decision",
         WrongEntryTwice: "images with two fields and more of an entry on their limits or beyond",
         BytesOfRecord: "images with two bytes and more of a record changed",
@@ -116,6 +159,14 @@ counted! {
         FollowingByte0: "bytes 0 following",
         FollowingByte255: "bytes 255 following",
         FollowingByte: "other bytes following",
+        YearBeforeFirst: "asked in the year before an entry's first",
+        YearFirst: "asked in an entry's first year",
+        YearLast: "asked in an entry's last year",
+        YearAfterLast: "asked in the year after an entry's last",
+        Year0: "asked in year 0",
+        Year65535: "asked in year 65,535",
+        YearExchanged: "asked in an entry's year with its bytes exchanged",
+        YearOther: "asked in another year",
         SizesWithin: "W and P within their limits",
         SizesBeyond: "W or P beyond its limits, both below 256",
         SizesFar: "W or P of 256 and more",
@@ -127,6 +178,19 @@ counted! {
         RoomAmple: "rooms longer by two bytes and more",
         OverShort: "rooms too short where more than 65,536 bytes are needed",
         OverEnough: "rooms long enough where more than 65,536 bytes are needed",
+        DateNotAsked: "rooms of refused moves to the dated form",
+        DateShort: "rooms shorter by two bytes and more for the dated form",
+        DateOneShort: "rooms shorter by one byte for the dated form",
+        DateExact: "rooms of the bytes needed for the dated form",
+        DateOneMore: "rooms longer by one byte for the dated form",
+        DateAmple: "rooms longer by two bytes and more for the dated form",
+        DateOfImage: "rooms of the image's own length for the dated form",
+        UndateNotAsked: "rooms of refused moves back",
+        UndateShort: "rooms shorter by two bytes and more for the old form",
+        UndateOneShort: "rooms shorter by one byte for the old form",
+        UndateExact: "rooms of the bytes needed for the old form",
+        UndateOneMore: "rooms longer by one byte for the old form",
+        UndateAmple: "rooms longer by two bytes and more for the old form",
     }
 }
 
@@ -134,17 +198,32 @@ counted! {
 pub fn case(seed: u64) -> Case {
     let random = &mut Random::new(seed);
     let mut kinds = vec![];
-    let (table, image, mut text) = if random.once_in(200) {
-        let (table, text) = much_output(random);
+    let question = question(random, &mut kinds);
+    let form = form(random, question);
+    let (table, year, image, mut text) = if question == Question::Emboss && random.once_in(200) {
+        let (table, text) = much_output(random, form);
         kinds.push(Kind::Sound);
+        let year = year(random, &table, &mut kinds);
         let image = table.image();
-        (table, image, text)
+        (table, year, image, text)
     } else {
-        let table = sound_table(random);
-        let image = image(random, &table, &mut kinds);
+        let mut table = sound_table(random, form);
+        // Equal strings may repeat.
+        if question != Question::Emboss && !table.entries.is_empty() && random.once_in(40) {
+            table.entries.resize(1199, table.entries[table.entries.len() - 1].clone());
+        }
+        let year = year(random, &table, &mut kinds);
+        let image = image(random, &table, year, &mut kinds);
         let text = text(random, &table, &mut kinds);
-        (table, image, text)
+        (table, year, image, text)
     };
+    let with_years = table.entries.iter().filter(|entry| entry.years != ALWAYS).count();
+    kinds.push(match with_years {
+        _ if !table.dated => Kind::OldForm,
+        0 => Kind::DatedAlways,
+        1 => Kind::DatedOne,
+        _ => Kind::DatedMixed,
+    });
     kinds.push(match table.entries.len() {
         0..=8 => Kind::SmallTable,
         9..=40 => Kind::MiddleTable,
@@ -167,16 +246,69 @@ pub fn case(seed: u64) -> Case {
     word_at_margin(random, &table, w, &mut text, &mut kinds);
     end_in_entry(random, &table, &mut text);
     let following = following(random, &table, &mut kinds);
-    let room = room(random, Asked { image: &image, text: &text, following, w, p }, &mut kinds);
-    Case { seed, kinds, image, text, following, w, p, room }
+    let mut case = Case { seed, kinds, question, image, text, following, year, w, p, room: 0 };
+    case.room = room(random, &mut case);
+    case
+}
+
+/// What is asked: mostly the whole call.
+fn question(random: &mut Random, kinds: &mut Vec<Kind>) -> Question {
+    let (kind, question) = match random.between(0, 99) {
+        0..=89 => (Kind::AskedEmboss, Question::Emboss),
+        90..=94 => (Kind::AskedDate, Question::Date),
+        _ => (Kind::AskedUndate, Question::Undate),
+    };
+    kinds.push(kind);
+    question
 }
 
 // Tables
 
+/// The form of a table and how many of its entries have years.
+#[derive(Clone, Copy, Debug, PartialEq, Eq)]
+enum Form {
+    Old,
+    Mixed,
+    Always,
+    One,
+}
+
+/// The form of a case's table: for a mover mostly one that it takes, for moving back mostly one
+/// without years or with few.
+fn form(random: &mut Random, question: Question) -> Form {
+    match (question, random.between(0, 19)) {
+        (Question::Emboss, 0..=8) => Form::Old,
+        (Question::Emboss, 9..=17) => Form::Mixed,
+        (Question::Emboss, 18) => Form::Always,
+        (Question::Emboss, _) => Form::One,
+        (Question::Date, 0..=16) => Form::Old,
+        (Question::Date, 17) => Form::Mixed,
+        (Question::Date, _) => Form::Always,
+        (Question::Undate, 0..=8) => Form::Always,
+        (Question::Undate, 9..=13) => Form::One,
+        (Question::Undate, 14..=16) => Form::Mixed,
+        (Question::Undate, _) => Form::Old,
+    }
+}
+
 /// The image of a sound table, in three cases of ten with something wrong in it.
-fn image(random: &mut Random, sound: &Table, kinds: &mut Vec<Kind>) -> Vec<u8> {
+fn image(random: &mut Random, sound: &Table, year: u16, kinds: &mut Vec<Kind>) -> Vec<u8> {
     let mut table = sound.clone();
     let (kind, mut image) = match random.between(0, 99) {
+        0 => other_mark(random, &mut table),
+        1..=2 if table.dated && !table.entries.is_empty() => {
+            let chosen = random.between(0, table.entries.len() - 1);
+            table.entries[chosen].years = any_years(random);
+            (Kind::WrongYears, table.image())
+        }
+        3..=4 if table.dated && table.entries.len() > 1 => {
+            ungroup_by_another(random, &mut table, year);
+            (Kind::UngroupedByOthers, table.image())
+        }
+        5 if table.entries.len() > 1 => {
+            random.shuffle(&mut table.entries);
+            (Kind::AnyOrder, table.image())
+        }
         0..=67 => {
             kinds.push(Kind::Sound);
             return table.image();
@@ -188,8 +320,10 @@ fn image(random: &mut Random, sound: &Table, kinds: &mut Vec<Kind>) -> Vec<u8> {
         71..=72 => {
             table.alphabet.retain(|letter| letter[0] != b' ');
             let in_any_order = random.once_in(3);
-            if in_any_order {
+            if in_any_order || random.once_in(2) {
                 table.entries.retain(|entry| !entry.string.contains(&b' '));
+            }
+            if in_any_order {
                 random.shuffle(&mut table.entries);
             }
             (if in_any_order { Kind::NoBlankUngrouped } else { Kind::NoBlank }, table.image())
@@ -226,7 +360,130 @@ fn image(random: &mut Random, sound: &Table, kinds: &mut Vec<Kind>) -> Vec<u8> {
     image
 }
 
-fn sound_table(random: &mut Random) -> Table {
+/// The image with the last byte of the other form, and the records as they were; of some tables so
+/// many that their bytes are whole records of the other size too.
+fn other_mark(random: &mut Random, table: &mut Table) -> (Kind, Vec<u8>) {
+    let whole = if table.dated { 9 } else { 11 };
+    if random.once_in(2) {
+        table.entries.truncate(table.entries.len() / whole * whole);
+    }
+    let mut image = table.image();
+    *image.last_mut().expect("the trailer's last byte") = if table.dated { 51 } else { 52 };
+    let kind = match table.entries.len() {
+        0 => Kind::OtherMarkNoEntry,
+        entries if entries % whole == 0 => Kind::OtherMarkWhole,
+        _ if table.dated => Kind::DatedAsOld,
+        _ => Kind::OldAsDated,
+    };
+    (kind, image)
+}
+
+/// One entry more that isn't in force in this year, a copy of another, put anywhere: mostly it
+/// breaks the grouping, and those in force are grouped.
+fn ungroup_by_another(random: &mut Random, table: &mut Table, year: u16) {
+    let chosen = random.between(0, table.entries.len() - 1);
+    let mut another = table.entries[chosen].clone();
+    another.years = match year {
+        0 => (1, 65_535),
+        65_535 => (0, 65_534),
+        _ => random.any(&[(0, year - 1), (year + 1, 65_535)]),
+    };
+    let place = random.between(0, table.entries.len());
+    table.entries.insert(place, another);
+    table.entries.truncate(1199);
+}
+
+/// Years on their limit or just beyond: the first after the last by one of its bytes or by both, or
+/// not after it though it would be with its bytes exchanged, or equal to it.
+fn any_years(random: &mut Random) -> (u16, u16) {
+    let (low, lower) = (random.between(1, 255) as u16, random.between(0, 255) as u16);
+    let (low, lower) = (low, lower % low);
+    let (high, less) = (random.between(1, 255) as u16, random.between(0, 255) as u16);
+    let (high, less) = (high * 256, less % high * 256);
+    match random.between(0, 11) {
+        0..=1 => (high + low, high + lower),
+        2..=3 => (high + low, less + lower),
+        4..=5 => (high + lower, less + low),
+        6 => (less + low, high + lower),
+        7 => (high + low, high + low),
+        8 => (high + lower, high + low),
+        9 => random.any(&[(65_535, 0), (1, 0), (65_535, 65_534), (256, 255), (256, 0), (257, 256)]),
+        10 => random.any(&[(0, 0), (65_535, 65_535), (0, 1), (255, 256), (65_534, 65_535), ALWAYS]),
+        _ => (random.next() as u16, random.next() as u16),
+    }
+}
+
+/// Right years for an entry, from the few in which the tables of a shop change.
+fn right_years(random: &mut Random, editions: &[u16]) -> (u16, u16) {
+    let (one, other) = (random.any(editions), random.any(editions));
+    match random.between(0, 15) {
+        0..=4 => ALWAYS,
+        5..=7 => (0, one),
+        8..=10 => (one, 65_535),
+        11 => (one, one),
+        _ => (one.min(other), one.max(other)),
+    }
+}
+
+/// Years of which a few bytes, mostly one, differ from those of an entry that is always in force.
+fn hardly_dated(random: &mut Random) -> (u16, u16) {
+    let [mut a, mut b, mut c, mut d] = [0, 0, 255, 255];
+    let other = random.between(1, 254) as u8;
+    match random.between(0, 5) {
+        0 => a = other,
+        1 => b = other,
+        2 => c = other,
+        3 => d = other,
+        4 => (a, c) = (other, other),
+        _ => (b, d) = (other, other),
+    }
+    (u16::from_le_bytes([a, b]), u16::from_le_bytes([c, d]))
+}
+
+/// Gives the entries of a table of the dated form their years.
+fn give_years(random: &mut Random, form: Form, entries: &mut [Entry]) {
+    let near = [0, 1, 255, 256, 257, 1931, 1932, 2015, 2016, 65_279, 65_280, 65_534, 65_535];
+    let editions: Vec<u16> = (0..random.between(1, 4))
+        .map(|_| if random.once_in(2) { random.any(&near) } else { random.next() as u16 })
+        .collect();
+    match form {
+        Form::Mixed => {
+            for entry in entries {
+                entry.years = right_years(random, &editions);
+            }
+        }
+        Form::One if !entries.is_empty() => {
+            let last = entries.len() - 1;
+            let between = random.between(0, last);
+            entries[random.any(&[0, between, last])].years = hardly_dated(random);
+        }
+        _ => (),
+    }
+}
+
+/// The year that is asked: mostly one at an edge of an entry's years.
+fn year(random: &mut Random, table: &Table, kinds: &mut Vec<Kind>) -> u16 {
+    let dated: Vec<&Entry> = table.entries.iter().filter(|entry| entry.years != ALWAYS).collect();
+    let (kind, year) = match random.between(0, 19) {
+        0..=15 if !dated.is_empty() => {
+            let (first, last) = random.any(&dated).years;
+            match random.between(0, 8) {
+                0..=1 if first > 0 => (Kind::YearBeforeFirst, first - 1),
+                2..=3 => (Kind::YearFirst, first),
+                4..=5 => (Kind::YearLast, last),
+                6..=7 if last < 65_535 => (Kind::YearAfterLast, last + 1),
+                _ => (Kind::YearExchanged, random.any(&[first, last]).swap_bytes()),
+            }
+        }
+        16 => (Kind::Year0, 0),
+        17 => (Kind::Year65535, 65_535),
+        _ => (Kind::YearOther, random.next() as u16),
+    };
+    kinds.push(kind);
+    year
+}
+
+fn sound_table(random: &mut Random, form: Form) -> Table {
     let classes = match random.between(0, 9) {
         0..=6 => random.between(1, 6),
         7..=8 => random.between(1, 40),
@@ -249,14 +506,16 @@ fn sound_table(random: &mut Random) -> Table {
         (0..random.between(0, 5)).map(|_| [0; 4].map(|_| random.between(1, classes) as u8)).collect();
     let symbols: Vec<u8> = alphabet.iter().map(|letter| letter[0]).collect();
     let plain = random.once_in(4);
-    let entries = grouped_strings(random, &symbols, entries)
+    let mut entries: Vec<Entry> = grouped_strings(random, &symbols, entries)
         .into_iter()
         .map(|string| entry(random, string, classes, contexts.len(), plain))
         .collect();
+    give_years(random, form, &mut entries);
     let transitions = (0..variables)
         .map(|_| (0..classes).map(|_| random.any(b"RSTRS---")).collect())
         .collect();
     Table {
+        dated: form != Form::Old,
         classes: classes as u8,
         variables: variables as u8,
         alphabet,
@@ -372,7 +631,8 @@ fn entry(random: &mut Random, string: Vec<u8>, classes: usize, contexts: usize, 
             _ => random.between(1, 63) as u8,
         };
     }
-    Entry { string, context: context as u8, class: random.between(1, classes) as u8, shift: shift as u8, signs }
+    let class = random.between(1, classes) as u8;
+    Entry { string, context: context as u8, class, shift: shift as u8, signs, years: ALWAYS }
 }
 
 fn decisions(random: &mut Random, classes: usize, variables: usize) -> Vec<Vec<u8>> {
@@ -409,7 +669,8 @@ fn beyond_a_limit(random: &mut Random, table: &mut Table) {
             }
         }
         2 if random.once_in(2) => {
-            let last = Entry { string: vec![b' '], context: 0, class: 1, shift: 1, signs: [99; 4] };
+            let signs = [99; 4];
+            let last = Entry { string: vec![b' '], context: 0, class: 1, shift: 1, signs, years: ALWAYS };
             table.entries.resize(1200, last);
         }
         2 | 3 => table.contexts.resize(6, [1; 4]),
@@ -458,7 +719,8 @@ fn wrong_entry(random: &mut Random, table: &mut Table, chosen: usize) {
     let classes = table.classes;
     let entry = &mut table.entries[chosen];
     let length = entry.string.len() as u8;
-    match random.between(0, 7) {
+    match random.between(0, 8) {
+        8 => entry.years = any_years(random),
         0 => entry.class = random.any(&[0, 1, classes, classes + 1, 255]),
         1 => entry.shift = random.any(&[0, 0, 1, length, length + 1, length + 1, 255]),
         2 => entry.context = random.any(&[0, contexts, contexts + 1, 255]),
@@ -508,7 +770,7 @@ fn damaged(random: &mut Random, table: &Table) -> (Kind, Vec<u8>) {
     let mut image = table.image();
     let sections = table.sections();
     let classes = table.classes as usize;
-    let sizes = [3, 18, 4, classes, classes + table.variables as usize];
+    let sizes = [3, table.entry_size(), 4, classes, classes + table.variables as usize];
     let start = |section: usize| sections[..section].iter().map(Vec::len).sum::<usize>();
     let filled: Vec<usize> = (0..5).filter(|section| !sections[*section].is_empty()).collect();
     let kind = match random.between(0, 26) {
@@ -745,8 +1007,8 @@ fn following(random: &mut Random, table: &Table, kinds: &mut Vec<Kind>) -> u8 {
 
 /// A table each of whose entries prints as much as four signs can, and a long text of its strings: up to nine
 /// bytes for each character, some 147,500 in all.
-fn much_output(random: &mut Random) -> (Table, Vec<u8>) {
-    let mut table = sound_table(random);
+fn much_output(random: &mut Random, form: Form) -> (Table, Vec<u8>) {
+    let mut table = sound_table(random, form);
     let (classes, variables) = (table.classes as usize, table.variables as usize);
     table.decisions = vec![[vec![b'G'; classes], vec![b'-'; variables]].concat()];
     table.alphabet = alphabet(random, classes, MANY_ENTRIES);
@@ -754,7 +1016,8 @@ fn much_output(random: &mut Random) -> (Table, Vec<u8>) {
     for letter in &table.alphabet {
         let (one, other) = (random.any(&[72, 72, 72, 71, 73]), random.any(&[72, 72, 72, 71, 73]));
         let signs = [one, random.between(1, 63) as u8, other, random.between(1, 63) as u8];
-        table.entries.push(Entry { string: vec![letter[0]], context: 0, class: letter[1], shift: 1, signs });
+        let (string, years) = (vec![letter[0]], ALWAYS);
+        table.entries.push(Entry { string, context: 0, class: letter[1], shift: 1, signs, years });
     }
     let letters: Vec<u8> = table.alphabet.iter().map(|letter| letter[0]).filter(|symbol| *symbol != b' ').collect();
     let length = if random.once_in(3) { 16_384 } else { random.between(12_000, 16_384) };
@@ -795,16 +1058,28 @@ fn beyond(random: &mut Random, near: &[u64], low: usize, high: usize) -> u64 {
     }
 }
 
-fn room(random: &mut Random, asked: Asked, kinds: &mut Vec<Kind>) -> usize {
-    let without_room = emboss(asked, &mut [], &mut Notes::new());
+fn room(random: &mut Random, case: &mut Case) -> usize {
+    let without_room = case.answer(Planted::Nothing, &mut [], &mut Notes::new());
+    let (question, kinds) = (case.question, &mut case.kinds);
     let needed = match without_room.number {
         0 => 0,
         8 => without_room.place as usize,
         _ => {
-            kinds.push(Kind::RoomNotAsked);
-            return random.any(&[0, 1, 40, 200]);
+            kinds.push(match question {
+                Question::Emboss => Kind::RoomNotAsked,
+                Question::Date => Kind::DateNotAsked,
+                Question::Undate => Kind::UndateNotAsked,
+            });
+            return if question == Question::Emboss {
+                random.any(&[0, 1, 40, 200])
+            } else {
+                random.any(&[0, case.image.len() / 2, case.image.len() + 8, 40_000])
+            };
         }
     };
+    if question != Question::Emboss {
+        return room_of_mover(random, question, case.image.len(), needed, kinds);
+    }
     let room = match random.between(0, 39) {
         0..=1 => needed.saturating_sub(1),
         2 => random.between(0, needed),
@@ -829,17 +1104,119 @@ fn room(random: &mut Random, asked: Asked, kinds: &mut Vec<Kind>) -> usize {
     room
 }
 
+/// The room of a mover: short, exact or more, or as long as the image that is moved.
+fn room_of_mover(
+    random: &mut Random,
+    question: Question,
+    image: usize,
+    needed: usize,
+    kinds: &mut Vec<Kind>,
+) -> usize {
+    let room = match random.between(0, 9) {
+        0 => random.between(0, needed - 1),
+        1..=2 => needed - 1,
+        3..=5 => needed,
+        6 => needed + 1,
+        7 => image,
+        _ => needed + random.between(0, 40),
+    };
+    let date = question == Question::Date;
+    kinds.push(match (room as i64 - needed as i64, date) {
+        (-1, true) => Kind::DateOneShort,
+        (-1, false) => Kind::UndateOneShort,
+        (0, true) => Kind::DateExact,
+        (0, false) => Kind::UndateExact,
+        (1, true) => Kind::DateOneMore,
+        (1, false) => Kind::UndateOneMore,
+        (2.., true) => Kind::DateAmple,
+        (2.., false) => Kind::UndateAmple,
+        (_, true) if room == image => Kind::DateOfImage,
+        (_, true) => Kind::DateShort,
+        (_, false) => Kind::UndateShort,
+    });
+    room
+}
+
 #[cfg(test)]
 mod tests {
     use super::*;
+    use crate::reference::emboss;
+
+    const FORMS: [Form; 4] = [Form::Old, Form::Mixed, Form::Always, Form::One];
 
     #[test]
     fn sound_tables_are_accepted() {
         for seed in 0..2000 {
-            let table = sound_table(&mut Random::new(seed));
-            let asked = Asked { image: &table.image(), text: b"", following: b' ', w: 8, p: 2 };
+            let table = sound_table(&mut Random::new(seed), FORMS[seed as usize % 4]);
+            let asked = Asked { image: &table.image(), text: b"", following: b' ', year: 0, w: 8, p: 2 };
             let answer = emboss(asked, &mut [], &mut Notes::new());
             assert_eq!((answer.number, answer.place), (0, 0), "seed {seed}");
+        }
+    }
+
+    /// The answer and output of a text by a table, in a year, with ample room.
+    fn printed(table: &Table, text: &[u8], year: u16) -> (Answer, Vec<u8>) {
+        let mut out = vec![200; LARGEST_ROOM];
+        let asked = Asked { image: &table.image(), text, following: b' ', year, w: 8, p: 2 };
+        let answer = emboss(asked, &mut out, &mut Notes::new());
+        out.truncate(answer.written as usize);
+        (answer, out)
+    }
+
+    /// Two tables with the same entries in force in a year, in the same order, and otherwise equal,
+    /// print alike in that year: the table, the one without the entries that aren't in force, and
+    /// this one in the old form.
+    #[test]
+    fn tables_print_alike_in_a_year() {
+        let mut unlike_all = 0;
+        for seed in 0..1000 {
+            let random = &mut Random::new(seed);
+            let table = sound_table(random, Form::Mixed);
+            let year = year(random, &table, &mut vec![]);
+            let mut text = text(random, &table, &mut vec![]);
+            text.truncate(1000);
+            let mut in_force = table.clone();
+            in_force.entries.retain(|entry| entry.years.0 <= year && year <= entry.years.1);
+            let mut old = in_force.clone();
+            old.dated = false;
+            let right = printed(&table, &text, year);
+            assert_eq!(printed(&in_force, &text, year), right, "seed {seed}");
+            for any_year in [0, year, random.next() as u16, 65_535] {
+                assert_eq!(printed(&old, &text, any_year), right, "seed {seed}");
+            }
+            let mut all = table.clone();
+            all.dated = false;
+            unlike_all += (printed(&all, &text, year) != right) as u64;
+        }
+        assert!(unlike_all > 200, "{unlike_all}");
+    }
+
+    /// A table that is moved and moved back is the table; the moved one prints alike in every year.
+    #[test]
+    fn moved_tables_come_back() {
+        let moved = |way: Way, image: &[u8]| {
+            let mut out = vec![200; 40_000];
+            let answer = move_table(Planted::Nothing, way, image, &mut out, &mut Notes::new());
+            assert!(out[answer.written as usize..].iter().all(|byte| *byte == 200));
+            out.truncate(answer.written as usize);
+            (answer.number, out)
+        };
+        for seed in 0..1000 {
+            let random = &mut Random::new(seed);
+            let mut table = sound_table(random, Form::Old);
+            let old = table.image();
+            table.dated = true;
+            let dated = table.image();
+            assert_eq!(moved(Way::Date, &old), (0, dated.clone()), "seed {seed}");
+            assert_eq!(moved(Way::Undate, &dated), (0, old.clone()), "seed {seed}");
+            assert_eq!(moved(Way::Date, &dated), (1, vec![]), "seed {seed}");
+            assert_eq!(moved(Way::Undate, &old), (1, vec![]), "seed {seed}");
+            let mut text = text(random, &table, &mut vec![]);
+            text.truncate(1000);
+            let year = random.next() as u16;
+            let right = printed(&table, &text, year);
+            table.dated = false;
+            assert_eq!(printed(&table, &text, year), right, "seed {seed}");
         }
     }
 

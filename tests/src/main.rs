@@ -1,7 +1,7 @@
-//! Compares the proved program with the reference: random cases go to the program's standard input, its
-//! answers and whole buffers come back, and every value and every byte has to be the reference's. The head of
-//! crates/answers/src/main.rt has the byte form of a case. It also writes table images from their readable
-//! form, runs the outside vectors, and prints what `brailleout` has to print.
+//! Compares the proved program with the reference: random cases go to the program's standard input,
+//! its answers and whole buffers come back, and every value and every byte has to be the
+//! reference's. tests/README.md has the byte form of a case. It also writes table images from their
+//! readable form, runs the outside vectors, and prints what `brailleout` has to print.
 
 #[macro_use]
 mod counts;
@@ -15,12 +15,12 @@ mod vectors;
 mod paper;
 
 use counts::{Notes, EVENT_WORDS};
-use generate::{case, case_seed, Case, KIND_WORDS};
-use reference::{emboss, emboss_planted, Answer, Planted};
+use generate::{case, case_seed, Case, Question, KIND_WORDS};
+use reference::{Answer, Planted};
 use std::io::{Read, Write};
 use std::process::{exit, Command, Stdio};
 
-const USAGE: &str = "compare --seed S --cases N --program WORD [--program WORD ...] [--planted 1..14] [--batch N] [--all-counts]
+const USAGE: &str = "compare --seed S --cases N --program WORD [--program WORD ...] [--planted 1..19] [--batch N] [--all-counts]
 compare case SEED
 compare table FILE IMAGE
 compare vectors FOLDER --program WORD [--program WORD ...]
@@ -88,6 +88,11 @@ impl Settings {
                         "12" => Planted::HyphenOnWhole,
                         "13" => Planted::HyphenOverWidth,
                         "14" => Planted::HyphenOnRest,
+                        "15" => Planted::LastYearOut,
+                        "16" => Planted::FirstYearOut,
+                        "17" => Planted::GroupingInForce,
+                        "18" => Planted::YearsHighFirst,
+                        "19" => Planted::IndexAsPlace,
                         _ => return Err(USAGE.to_string()),
                     }
                 }
@@ -117,11 +122,13 @@ fn lent_buffer(room: usize) -> Vec<u8> {
 }
 
 fn write_case(case: &Case, bytes: &mut Vec<u8>) {
+    bytes.extend((case.question as u32).to_le_bytes());
     bytes.extend((case.image.len() as u32).to_le_bytes());
     bytes.extend((case.text.len() as u32).to_le_bytes());
     bytes.extend(case.w.to_le_bytes());
     bytes.extend(case.p.to_le_bytes());
     bytes.extend((case.following as u64).to_le_bytes());
+    bytes.extend((case.year as u64).to_le_bytes());
     bytes.extend((case.room as u32).to_le_bytes());
     bytes.extend(&case.image);
     bytes.extend(&case.text);
@@ -153,10 +160,13 @@ fn take_u64(bytes: &mut &[u8]) -> Option<u64> {
 }
 
 fn read_case(bytes: &mut &[u8]) -> Option<Case> {
+    let question = Question::of(take_u32(bytes)?)?;
     let (image, text) = (take_u32(bytes)?, take_u32(bytes)?);
-    let (w, p, following, room) = (take_u64(bytes)?, take_u64(bytes)?, take_u64(bytes)? as u8, take_u32(bytes)?);
+    let (w, p) = (take_u64(bytes)?, take_u64(bytes)?);
+    let (following, year) = (take_u64(bytes)? as u8, take_u64(bytes)? as u16);
+    let room = take_u32(bytes)?;
     let (image, text) = (take(bytes, image)?.to_vec(), take(bytes, text)?.to_vec());
-    Some(Case { seed: 0, kinds: vec![], image, text, following, w, p, room })
+    Some(Case { seed: 0, kinds: vec![], question, image, text, following, year, w, p, room })
 }
 
 fn read_answer(bytes: &mut &[u8], room: usize) -> Option<(Answer, Vec<u8>)> {
@@ -179,7 +189,7 @@ fn serve() -> Result<(), String> {
     let mut output = vec![];
     while let Some(case) = read_case(&mut rest) {
         let mut buffer = lent_buffer(case.room);
-        let answer = emboss(case.asked(), &mut buffer, &mut Notes::new());
+        let answer = case.answer(Planted::Nothing, &mut buffer, &mut Notes::new());
         write_answer(&answer, &mut output);
         output.extend(buffer);
     }
@@ -251,19 +261,25 @@ pub fn run_program<T>(
 
 // The random comparison
 
-/// The numbers of an answer, in the order in which they are met.
-const NUMBERS: [u8; 14] = [0, 1, 2, 11, 12, 13, 14, 3, 4, 5, 6, 7, 15, 8];
+/// What can be asked, in which words, and the numbers of its answers in the order in which they are
+/// met.
+const NUMBERS: [(Question, &str, &[u8]); 3] = [
+    (Question::Emboss, "answer", &[0, 1, 2, 11, 12, 13, 14, 3, 4, 5, 6, 7, 15, 8]),
+    (Question::Date, "dating: answer", &[0, 1, 2, 11, 12, 13, 14, 3, 4, 8]),
+    (Question::Undate, "moving back: answer", &[0, 1, 2, 11, 12, 13, 14, 3, 4, 17, 8]),
+];
 
 struct Counts {
     cases: u64,
     kinds: [u64; KIND_WORDS.len()],
-    /// One for each of NUMBERS.
-    answers: [u64; NUMBERS.len()],
+    /// Of each of NUMBERS so many of each number.
+    answers: [[u64; 256]; NUMBERS.len()],
     with_cells: u64,
 }
 
 fn compare(settings: &Settings) -> Result<(), String> {
-    let mut counts = Counts { cases: 0, kinds: [0; KIND_WORDS.len()], answers: [0; NUMBERS.len()], with_cells: 0 };
+    let answers = [[0; 256]; NUMBERS.len()];
+    let mut counts = Counts { cases: 0, kinds: [0; KIND_WORDS.len()], answers, with_cells: 0 };
     let mut notes = Notes::new();
     while counts.cases < settings.cases {
         let upto = settings.cases.min(counts.cases + settings.batch);
@@ -285,9 +301,7 @@ fn compare(settings: &Settings) -> Result<(), String> {
             for kind in &case.kinds {
                 counts.kinds[*kind as usize] += 1;
             }
-            for (count, number) in counts.answers.iter_mut().zip(NUMBERS) {
-                *count += (number == own.0.number) as u64;
-            }
+            counts.answers[case.question as usize][own.0.number as usize] += 1;
             if own.0.number == 0 {
                 notes.add(own_notes);
                 // The first line of a page always has a cell.
@@ -313,7 +327,7 @@ fn expect(planted: Planted, cases: &[Case]) -> Vec<(Outcome, Notes)> {
         .map(|case| {
             let mut notes = Notes::new();
             let mut buffer = lent_buffer(case.room);
-            let answer = emboss_planted(planted, case.asked(), &mut buffer, &mut notes);
+            let answer = case.answer(planted, &mut buffer, &mut notes);
             ((answer, buffer), notes)
         })
         .collect()
@@ -340,8 +354,10 @@ fn report(settings: &Settings, counts: &Counts, notes: &Notes) -> Result<(), Str
     for (count, words) in counts.kinds.iter().zip(KIND_WORDS) {
         line(*count, words);
     }
-    for (count, number) in counts.answers.iter().zip(NUMBERS) {
-        line(*count, &format!("answer {number}"));
+    for (question, words, numbers) in NUMBERS {
+        for number in numbers {
+            line(counts.answers[question as usize][*number as usize], &format!("{words} {number}"));
+        }
     }
     line(counts.with_cells, "answer 0 with cells");
     for (count, words) in notes.counts.iter().zip(EVENT_WORDS) {
@@ -362,8 +378,8 @@ fn report(settings: &Settings, counts: &Counts, notes: &Notes) -> Result<(), Str
 fn show(seed: &str) -> Result<(), String> {
     let case = case(number(seed)?);
     let mut buffer = lent_buffer(case.room);
-    let answer = emboss(case.asked(), &mut buffer, &mut Notes::new());
-    println!("W {} P {} room {}", case.w, case.p, case.room);
+    let answer = case.answer(Planted::Nothing, &mut buffer, &mut Notes::new());
+    println!("{:?}, year {} W {} P {} room {}", case.question, case.year, case.w, case.p, case.room);
     println!("image, {} bytes: {:?}", case.image.len(), case.image);
     println!("text, {} bytes: {:?}", case.text.len(), String::from_utf8_lossy(&case.text));
     println!("following {} {:?}", case.following, case.following as char);

@@ -2,8 +2,11 @@
 //! what a request of document 02 changes, by the same table.
 
 use crate::counts::Notes;
-use crate::reference::{emboss, emboss_planted, Answer, Asked, Planted};
+use crate::reference::{emboss, emboss_planted, move_table, Answer, Asked, Planted, Way};
 use crate::table;
+
+/// The paper's table has the old form, so it doesn't care about the year.
+const YEAR: u16 = 1970;
 
 fn image() -> Vec<u8> {
     table::read(include_str!("../vectors/paper.table")).unwrap().image()
@@ -15,7 +18,7 @@ fn ask(text: &[u8], w: u64, p: u64, room: usize) -> (Answer, Vec<u8>) {
 
 fn ask_followed(text: &[u8], following: u8, w: u64, p: u64, room: usize) -> (Answer, Vec<u8>) {
     let mut out = vec![200; room];
-    let answer = emboss(Asked { image: &image(), text, following, w, p }, &mut out, &mut Notes::new());
+    let answer = emboss(Asked { image: &image(), text, following, year: YEAR, w, p }, &mut out, &mut Notes::new());
     assert!(out[answer.written as usize..].iter().all(|byte| *byte == 200), "beyond the written bytes as it was");
     out.truncate(answer.written as usize);
     (answer, out)
@@ -75,7 +78,7 @@ fn corners() {
 }
 
 fn check(image: &[u8]) -> (u8, u64) {
-    let answer = emboss(Asked { image, text: b"", following: b' ', w: 8, p: 2 }, &mut [], &mut Notes::new());
+    let answer = emboss(Asked { image, text: b"", following: b' ', year: YEAR, w: 8, p: 2 }, &mut [], &mut Notes::new());
     (answer.number, answer.place)
 }
 
@@ -202,7 +205,7 @@ fn errors_an_implementer_will_be_drawn_to() {
         let image = table::read(table).unwrap().image();
         let ask = |planted| {
             let mut out = [0; 100];
-            let asked = Asked { image: &image, text: text.as_bytes(), following: b' ', w: 8, p: 2 };
+            let asked = Asked { image: &image, text: text.as_bytes(), following: b' ', year: YEAR, w: 8, p: 2 };
             let answer = emboss_planted(planted, asked, &mut out, &mut Notes::new());
             assert_eq!(answer.number, 0);
             out[..answer.written as usize].to_vec()
@@ -227,7 +230,7 @@ fn errors_an_implementer_will_be_drawn_to() {
 fn errors_of_which_byte() {
     let shows = |planted: Planted, bytes: &[(usize, u8)], right: (u8, u64), error: (u8, u64)| {
         let ask = |planted| {
-            let asked = Asked { image: &damaged(bytes), text: b"", following: b' ', w: 8, p: 2 };
+            let asked = Asked { image: &damaged(bytes), text: b"", following: b' ', year: YEAR, w: 8, p: 2 };
             let answer = emboss_planted(planted, asked, &mut [], &mut Notes::new());
             (answer.number, answer.place)
         };
@@ -334,7 +337,7 @@ fn errors_of_the_hyphen() {
     let shows = |planted: Planted, cells: usize, right: &[&[u8]], error: &[&[u8]]| {
         let ask = |planted| {
             let mut out = [0; 100];
-            let asked = Asked { image: &image(), text: &vec![b'A'; cells], following: b' ', w: 8, p: 40 };
+            let asked = Asked { image: &image(), text: &vec![b'A'; cells], following: b' ', year: YEAR, w: 8, p: 40 };
             let answer = emboss_planted(planted, asked, &mut out, &mut Notes::new());
             out[..answer.written as usize].to_vec()
         };
@@ -410,7 +413,7 @@ fn what_follows_is_refused() {
     let unasked = include_str!("../vectors/paper.table").replace("entry BLIND 4 1 =", "entry BLIND 4 - =");
     let unasked = table::read(&unasked).unwrap().image();
     for (image, answer) in [(damaged(&[(203, b'F')]), refused(14, 203)), (unasked, refused(15, 0))] {
-        let asked = Asked { image: &image, text: b"BLIND", following: b'a', w: 8, p: 2 };
+        let asked = Asked { image: &image, text: b"BLIND", following: b'a', year: YEAR, w: 8, p: 2 };
         assert_eq!(emboss(asked, &mut [0; 100], &mut Notes::new()), answer);
     }
 }
@@ -422,7 +425,7 @@ fn errors_of_what_follows() {
     let shows = |planted: Planted, text: &str, following: u8, right: (u8, &[u8]), error: (u8, &[u8])| {
         let ask = |planted| {
             let mut out = [0; 100];
-            let asked = Asked { image: &image(), text: text.as_bytes(), following, w: 8, p: 2 };
+            let asked = Asked { image: &image(), text: text.as_bytes(), following, year: YEAR, w: 8, p: 2 };
             let answer = emboss_planted(planted, asked, &mut out, &mut Notes::new());
             (answer.number, out[..answer.written as usize].to_vec())
         };
@@ -436,4 +439,337 @@ fn errors_of_what_follows() {
     shows(Planted::FollowingInside, "BLINDED", b' ', (0, &[3, 7, 10, 29, 25, 17, 25, 64, 65]), (0, &then_ed));
     shows(Planted::FollowingInside, "BLIND ", b'E', (0, &contracted), (0, &spelled));
     shows(Planted::FollowingBeforeText, "a", b'a', (7, &[]), (15, &[]));
+}
+
+/// The paper's table in the dated form, COM in force from 1932 to 2015.
+fn dated_image() -> Vec<u8> {
+    table::read(include_str!("../vectors/dated.table")).unwrap().image()
+}
+
+/// The same with other years for COM, and for `$N`, the last record, which are 0 and 65,535 in the
+/// file.
+fn with_years(com: (u16, u16), last: (u16, u16)) -> Vec<u8> {
+    let mut table = table::read(include_str!("../vectors/dated.table")).unwrap();
+    table.entries[0].years = com;
+    table.entries[6].years = last;
+    table.image()
+}
+
+const ALWAYS: (u16, u16) = (0, 65_535);
+
+fn ask_in(planted: Planted, image: &[u8], text: &str, year: u16) -> (Answer, Vec<u8>) {
+    let mut out = vec![200; 1000];
+    let asked = Asked { image, text: text.as_bytes(), following: b' ', year, w: 8, p: 2 };
+    let answer = emboss_planted(planted, asked, &mut out, &mut Notes::new());
+    assert!(out[answer.written as usize..].iter().all(|byte| *byte == 200), "beyond the written bytes as it was");
+    out.truncate(answer.written as usize);
+    (answer, out)
+}
+
+/// A mover's answer and what it wrote, with so much room.
+fn moved(way: Way, image: &[u8], room: usize) -> (Answer, Vec<u8>) {
+    let mut out = vec![200; room];
+    let answer = move_table(Planted::Nothing, way, image, &mut out, &mut Notes::new());
+    assert!(out[answer.written as usize..].iter().all(|byte| *byte == 200), "beyond the written bytes as it was");
+    out.truncate(answer.written as usize);
+    (answer, out)
+}
+
+fn done(written: u64) -> Answer {
+    Answer { written, ..Answer::default() }
+}
+
+/// Request 6 of document 02: records are 22 bytes and the trailer's last byte is 52; two two-byte
+/// years after the signs.
+#[test]
+fn the_dated_image() {
+    let (old, dated) = (image(), dated_image());
+    assert_eq!(dated.len(), 246);
+    assert_eq!(dated[232..], [232, 0, 175, 0, 21, 0, 17, 0, 12, 0, 5, 1, 66, 52]);
+    assert_eq!(dated[..57], old[..57]);
+    for record in 0..7 {
+        assert_eq!(dated[57 + 22 * record..][..18], old[57 + 18 * record..][..18]);
+        let years = if record == 0 { [140, 7, 223, 7] } else { [0, 0, 255, 255] };
+        assert_eq!(dated[57 + 22 * record..][18..22], years);
+    }
+    assert_eq!(dated[211..232], old[183..204]);
+    assert_eq!(check(&dated), (0, 0));
+}
+
+#[test]
+fn years_are_counted_in() {
+    let (spelled, contracted) = ([9, 21, 13, 17, 64, 65], [36, 17, 64, 65]);
+    let years: [(u16, u64, &[u8]); 6] = [
+        (0, 4, &spelled),
+        (1931, 4, &spelled),
+        (1932, 2, &contracted),
+        (2015, 2, &contracted),
+        (2016, 4, &spelled),
+        (65_535, 4, &spelled),
+    ];
+    for (year, pieces, output) in years {
+        let (answer, wrote) = ask_in(Planted::Nothing, &dated_image(), "COME", year);
+        let written = output.len() as u64;
+        assert_eq!(wrote, output, "{year}");
+        assert_eq!(answer, Answer { number: 0, place: 0, written, pieces, lines: 1, pages: 1 }, "{year}");
+        // The other entries are always in force, and a table in the old form is in every year.
+        for text in ["FULFUL", "BLIND", "$PA", "A$S$SB", "$N$N"] {
+            let (answer, wrote) = ask_in(Planted::Nothing, &dated_image(), text, year);
+            assert_eq!((answer, wrote), ask(text.as_bytes(), 8, 2, 1000), "{text} {year}");
+            assert_eq!(ask_in(Planted::Nothing, &image(), text, year), ask(text.as_bytes(), 8, 2, 1000), "{text} {year}");
+        }
+        assert_eq!(ask_in(Planted::Nothing, &image(), "COME", year).1, contracted, "{year}");
+    }
+    // One year alone; the first and the last that there are; years whose bytes exchanged are other
+    // years.
+    let edges: [((u16, u16), &[u16], &[u16]); 7] = [
+        ((1932, 1932), &[1932], &[1931, 1933, 0, 65_535]),
+        (ALWAYS, &[0, 1, 1932, 65_534, 65_535], &[]),
+        ((0, 0), &[0], &[1, 65_535]),
+        ((65_535, 65_535), &[65_535], &[0, 65_534]),
+        ((1, 65_534), &[1, 2, 65_534], &[0, 65_535]),
+        ((255, 256), &[255, 256], &[254, 257, 0, 1]),
+        ((256, 511), &[256, 511], &[255, 512, 1]),
+    ];
+    for (com, within, outside) in edges {
+        for year in within {
+            assert_eq!(ask_in(Planted::Nothing, &with_years(com, ALWAYS), "COME", *year).0.pieces, 2, "{com:?} {year}");
+        }
+        for year in outside {
+            assert_eq!(ask_in(Planted::Nothing, &with_years(com, ALWAYS), "COME", *year).0.pieces, 4, "{com:?} {year}");
+        }
+    }
+}
+
+/// The paper's table with CO before COM, each with its years: the first one in force that is
+/// admissible.
+#[test]
+fn entries_outside_their_years_give_way() {
+    let image = |entries: &str| {
+        let table = include_str!("../vectors/paper.table").replace("entry COM   4 - = : 36", entries);
+        table::read(&table).unwrap().image()
+    };
+    let two = image("entry CO 4 - = : 9 9 @ - 1958\nentry COM 4 - = : 36 @ 1932 -");
+    let two_years: [(u16, &[u8]); 4] = [
+        (1931, &[9, 9, 13, 64, 65]),
+        (1932, &[9, 9, 13, 64, 65]),
+        (1958, &[9, 9, 13, 64, 65]),
+        (1959, &[36, 64, 65]),
+    ];
+    for (year, output) in two_years {
+        assert_eq!(ask_in(Planted::Nothing, &two, "COM", year).1, output, "{year}");
+    }
+    // The same string in two editions, with other signs in each, and none between them.
+    let same = image("entry COM 4 - = : 36 @ 1932 1958\nentry COM 4 - = : 9 13 @ 1960 2015");
+    let same_years: [(u16, &[u8]); 3] = [(1958, &[36, 64, 65]), (1959, &[9, 21, 13, 64, 65]), (1960, &[9, 13, 64, 65])];
+    for (year, output) in same_years {
+        assert_eq!(ask_in(Planted::Nothing, &same, "COM", year).1, output, "{year}");
+    }
+}
+
+/// First year after last is a wrong record, 11, at the first-year byte. The other rules are as they
+/// were, over records of 22 bytes; grouping is judged over all entries.
+#[test]
+fn wrong_dated_tables() {
+    let wrong: [((u16, u16), bool); 10] = [
+        ((2015, 1932), true),
+        ((1933, 1932), true),
+        ((1932, 1932), false),
+        ((1, 0), true),
+        ((65_535, 65_534), true),
+        ((65_535, 0), true),
+        // by the low byte, by the high byte, by the high byte alone; only with the bytes exchanged
+        ((0x0702, 0x0701), true),
+        ((0x0802, 0x0701), true),
+        ((0x0801, 0x0702), true),
+        ((0x0702, 0x0801), false),
+    ];
+    for (years, refused) in wrong {
+        let right = |place: u64| if refused { (11, place) } else { (0, 0) };
+        assert_eq!(check(&with_years(years, ALWAYS)), right(57 + 18), "{years:?}");
+        assert_eq!(check(&with_years(ALWAYS, years)), right(57 + 22 * 6 + 18), "{years:?}");
+    }
+    assert_eq!(check(&with_years((2, 1), (2, 1))), (11, 57 + 18));
+    // One byte at a time, in the dated image: where it stands, what is put there, what is answered.
+    let damages: [(usize, u8, (u8, u64)); 14] = [
+        (57, 0, (11, 57)),
+        (74, 74, (11, 74)),
+        // 1932 is 140 and 7 times 256, 2015 is 223 and 7 times 256
+        (75, 223, (0, 0)),
+        (75, 224, (11, 75)),
+        (76, 8, (11, 75)),
+        (77, 139, (11, 75)),
+        (77, 140, (0, 0)),
+        (78, 6, (11, 75)),
+        // the length of FUL, the years of $N
+        (79, 0, (11, 79)),
+        (207, 1, (0, 0)),
+        (210, 0, (0, 0)),
+        (211, 0, (12, 211)),
+        (245, 51, (1, 0)),
+        (245, 53, (1, 0)),
+    ];
+    for (at, byte, answer) in damages {
+        let mut image = dated_image();
+        image[at] = byte;
+        assert_eq!(check(&image), answer, "byte {at} made {byte}");
+    }
+    // An earlier byte of the record comes first.
+    let mut two = with_years((2, 1), ALWAYS);
+    two[74] = 74;
+    assert_eq!(check(&two), (11, 74));
+    // Trailer and records of different forms; without a record both forms are right.
+    let mut old = image();
+    old[217] = 52;
+    assert_eq!(check(&old), (1, 0));
+    for mark in [51, 52] {
+        let mut table = table::read(include_str!("../vectors/paper.table")).unwrap();
+        table.entries.clear();
+        let mut image = table.image();
+        *image.last_mut().unwrap() = mark;
+        assert_eq!(check(&image), (0, 0));
+    }
+    // 11 records of the old form are as long as 9 of the dated.
+    let mut table = table::read(include_str!("../vectors/paper.table")).unwrap();
+    table.entries.resize(11, table.entries[6].clone());
+    let mut eleven = table.image();
+    assert_eq!(check(&eleven), (0, 0));
+    *eleven.last_mut().unwrap() = 52;
+    assert_eq!(check(&eleven).0, 11);
+    // COM, FUL, COM: whatever the years.
+    for (years, year) in [(ALWAYS, 1970), ((1932, 2015), 2016), ((1932, 2015), 1970), ((2016, 2020), 1970)] {
+        let mut table = table::read(include_str!("../vectors/dated.table")).unwrap();
+        table.entries.insert(2, table.entries[0].clone());
+        table.entries[2].years = years;
+        assert_eq!(ask_in(Planted::Nothing, &table.image(), "A", year).0, refused(4, 57 + 44), "{years:?} {year}");
+    }
+}
+
+/// The largest right images of both forms, by their numbers of records.
+#[test]
+fn the_largest_images() {
+    for (dated, bytes) in [(false, 23_505), (true, 28_301)] {
+        let entry = table::Entry { string: vec![b' '], context: 0, class: 1, shift: 1, signs: [99; 4], years: ALWAYS };
+        let table = table::Table {
+            dated,
+            classes: 40,
+            variables: 15,
+            alphabet: (32..=94).map(|symbol| [symbol, 1, 1]).collect(),
+            entries: vec![entry.clone(); 1199],
+            contexts: vec![[1; 4]; 5],
+            transitions: vec![vec![b'-'; 40]; 15],
+            decisions: vec![vec![b'-'; 55]; 20],
+        };
+        assert_eq!(table.image().len(), bytes);
+        assert_eq!(check(&table.image()), (0, 0));
+        let more = table::Table { entries: vec![entry; 1200], ..table };
+        assert_eq!(check(&more.image()), (1, 0));
+    }
+}
+
+/// Movers both ways, a round trip where both exist; each answers 1 to a table of the other form.
+#[test]
+fn movers() {
+    let (old, always) = (image(), with_years(ALWAYS, ALWAYS));
+    assert_eq!((old.len(), always.len()), (218, 246));
+    for room in [246, 247, 300] {
+        assert_eq!(moved(Way::Date, &old, room), (done(246), always.clone()));
+        assert_eq!(moved(Way::Undate, &always, room), (done(218), old.clone()));
+    }
+    assert_eq!(moved(Way::Undate, &always, 218), (done(218), old.clone()));
+    for room in [0, 1, 217] {
+        assert_eq!(moved(Way::Date, &old, room).0, refused(8, 246));
+        assert_eq!(moved(Way::Undate, &always, room).0, refused(8, 218));
+    }
+    assert_eq!(moved(Way::Date, &old, 245).0, refused(8, 246));
+    // The other form, any other wrong trailer, and no image at all: 1, before all else.
+    for image in [&always, &dated_image()] {
+        assert_eq!(moved(Way::Date, image, 300).0, refused(1, 0));
+        assert_eq!(moved(Way::Date, image, 0).0, refused(1, 0));
+    }
+    assert_eq!(moved(Way::Undate, &old, 300).0, refused(1, 0));
+    assert_eq!(moved(Way::Undate, &old, 0).0, refused(1, 0));
+    assert_eq!(moved(Way::Undate, &damaged(&[(4, 0)]), 300).0, refused(1, 0));
+    let mut wrong_too = with_years((2, 1), ALWAYS);
+    wrong_too[4] = 0;
+    assert_eq!(moved(Way::Date, &wrong_too, 300).0, refused(1, 0));
+    for way in [Way::Date, Way::Undate] {
+        for image in [&old[..217], &always[..245], &old[..13], &[]] {
+            assert_eq!(moved(way, image, 300).0, refused(1, 0));
+        }
+    }
+    // Without a record the two forms differ in the last byte alone.
+    let mut table = table::read(include_str!("../vectors/paper.table")).unwrap();
+    table.entries.clear();
+    let (bare, mut bare_dated) = (table.image(), table.image());
+    bare_dated[91] = 52;
+    assert_eq!(moved(Way::Date, &bare, 92), (done(92), bare_dated.clone()));
+    assert_eq!(moved(Way::Undate, &bare_dated, 92), (done(92), bare));
+}
+
+/// Moving back answers 17 at the first dated record, after the table checks and before 8.
+#[test]
+fn dated_records_stay() {
+    let years: [(u16, u16); 8] =
+        [(1932, 2015), (0, 2015), (1932, 65_535), (1, 65_535), (256, 65_535), (0, 65_534), (0, 65_279), (65_535, 65_535)];
+    for years in years {
+        for room in [0, 217, 218, 300] {
+            assert_eq!(moved(Way::Undate, &with_years(years, ALWAYS), room).0, refused(17, 57), "{years:?}");
+            assert_eq!(moved(Way::Undate, &with_years(ALWAYS, years), room).0, refused(17, 57 + 22 * 6), "{years:?}");
+            assert_eq!(moved(Way::Undate, &with_years(years, years), room).0, refused(17, 57), "{years:?}");
+        }
+    }
+    assert_eq!(moved(Way::Undate, &dated_image(), 300).0, refused(17, 57));
+    // The table's own refusals come first: a wrong letter, wrong years, a wrong decision, no blank,
+    // a broken grouping.
+    let damages: [(&[(usize, u8)], (u8, u64)); 6] = [
+        (&[(4, 0)], (2, 4)),
+        (&[(75, 224)], (11, 75)),
+        (&[(210, 0)], (17, 57)),
+        (&[(231, b'F')], (14, 231)),
+        (&[(0, b'Z')], (3, 0)),
+        (&[(57 + 22 * 4 + 1, b'C')], (4, 57 + 22 * 4)),
+    ];
+    for (bytes, (number, place)) in damages {
+        let mut image = dated_image();
+        for (at, byte) in bytes {
+            image[*at] = *byte;
+        }
+        assert_eq!(moved(Way::Undate, &image, 0).0, refused(number, place), "{bytes:?}");
+        image[245] = 51;
+        assert_eq!(moved(Way::Undate, &image, 0).0, refused(1, 0), "{bytes:?}");
+    }
+}
+
+/// The errors that request 6 of document 02 invites: what is right, and what the error answers.
+#[test]
+fn errors_of_the_years() {
+    let shows = |planted: Planted, image: &[u8], year: u16, right: (u8, u64, u64), error: (u8, u64, u64)| {
+        let ask = |planted| {
+            let answer = ask_in(planted, image, "COME", year).0;
+            (answer.number, answer.place, answer.pieces)
+        };
+        assert_eq!(ask(Planted::Nothing), right, "{year}");
+        assert_eq!(ask(planted), error, "{year}");
+    };
+    shows(Planted::LastYearOut, &dated_image(), 2015, (0, 0, 2), (0, 0, 4));
+    shows(Planted::LastYearOut, &dated_image(), 1932, (0, 0, 2), (0, 0, 2));
+    shows(Planted::FirstYearOut, &dated_image(), 1932, (0, 0, 2), (0, 0, 4));
+    shows(Planted::FirstYearOut, &dated_image(), 2015, (0, 0, 2), (0, 0, 2));
+    // COM, FUL, COM, of which the last is out of force in 1970.
+    let mut table = table::read(include_str!("../vectors/dated.table")).unwrap();
+    table.entries.insert(2, table.entries[0].clone());
+    table.entries[2].years = (1971, 65_535);
+    shows(Planted::GroupingInForce, &table.image(), 1970, (4, 101, 0), (0, 0, 2));
+    shows(Planted::GroupingInForce, &table.image(), 1971, (4, 101, 0), (4, 101, 0));
+    // 1932 is 140 and 7 times 256: with its bytes exchanged 35,847, and 2015 57,095. 255 to 256
+    // would be wrong.
+    shows(Planted::YearsHighFirst, &dated_image(), 1970, (0, 0, 2), (0, 0, 4));
+    shows(Planted::YearsHighFirst, &with_years((255, 256), ALWAYS), 255, (0, 0, 2), (11, 75, 0));
+    shows(Planted::YearsHighFirst, &with_years((256, 255), ALWAYS), 255, (11, 75, 0), (0, 0, 2));
+    let mut out = [0; 300];
+    let image = with_years(ALWAYS, (0, 2015));
+    let mut ask = |planted| move_table(planted, Way::Undate, &image, &mut out, &mut Notes::new());
+    assert_eq!(ask(Planted::Nothing), refused(17, 189));
+    assert_eq!(ask(Planted::IndexAsPlace), refused(17, 6));
 }

@@ -1,5 +1,6 @@
 //! What the program `brailleout` prints, from the paragraph of document 01 that begins with its
-//! name. It is an old caller in the words of document 02: it passes a blank as the following symbol.
+//! name. It is an old caller in the words of document 02: it passes a blank as the following
+//! symbol, and prints by the year 65,535, so by the entries that have no end.
 
 use crate::counts::Notes;
 use crate::reference::{emboss, Asked};
@@ -24,10 +25,12 @@ pub fn brailleout(table: &str) -> Result<(), String> {
     std::io::stdout().write_all(printed(&image, &text).as_bytes()).map_err(|why| why.to_string())
 }
 
-/// The answer, then the pages: with a blank following, W 8, P 2 and 65,536 bytes of output.
+/// The answer, then the pages: with a blank following, in the year 65,535, with W 8, P 2 and 65,536
+/// bytes of output.
 fn printed(image: &[u8], text: &[u8]) -> String {
     let mut out = vec![0; 65_536];
-    let answer = emboss(Asked { image, text, following: b' ', w: 8, p: 2 }, &mut out, &mut Notes::new());
+    let asked = Asked { image, text, following: b' ', year: 65_535, w: 8, p: 2 };
+    let answer = emboss(asked, &mut out, &mut Notes::new());
     let mut printed =
         format!("{} {} {} {} {}\n", answer.number, answer.place, answer.pieces, answer.lines, answer.pages);
     // A refusal prints the first line alone: it has written nothing.

@@ -18,15 +18,26 @@ pub struct Answer {
     pub pages: u64,
 }
 
-/// What a call is asked: by which table image, which text, what follows it, and the sizes of lines and pages.
+/// What the whole call is asked: by which table image, which text, what follows it, in which year,
+/// and the sizes of lines and pages.
 #[derive(Clone, Copy)]
 pub struct Asked<'a> {
     pub image: &'a [u8],
     pub text: &'a [u8],
     /// Request 3: the following symbol, which the caller takes from the next section.
     pub following: u8,
+    /// Request 6: translation takes a year.
+    pub year: u16,
     pub w: u64,
     pub p: u64,
+}
+
+/// Request 6: the movers. `Date` moves a table in the old form to the dated form, `Undate` moves it
+/// back.
+#[derive(Clone, Copy, Debug, PartialEq, Eq)]
+pub enum Way {
+    Date,
+    Undate,
 }
 
 /// The error that is planted, if any.
@@ -61,6 +72,16 @@ pub enum Planted {
     HyphenOverWidth,
     /// Request 2: the rest with a hyphen.
     HyphenOnRest,
+    /// Request 6: last year not counted in.
+    LastYearOut,
+    /// Request 6: first year not counted in.
+    FirstYearOut,
+    /// Request 6: grouping over the entries in force.
+    GroupingInForce,
+    /// Request 6: years read high byte first.
+    YearsHighFirst,
+    /// Request 6: 17 at the record's index.
+    IndexAsPlace,
 }
 
 /// A refusal: its number and its place.
@@ -73,6 +94,8 @@ const PERIOD: u8 = 46;
 const NO_CELL: u8 = 99;
 const HYPHEN: u8 = 36;
 const TRAILER: usize = 14;
+/// 0 and 65,535 stand for always.
+const ALWAYS: (u16, u16) = (0, 65_535);
 const LONGEST_TEXT: usize = 16_384;
 
 // What comes back
@@ -99,9 +122,9 @@ pub fn emboss_planted(planted: Planted, asked: Asked, out: &mut [u8], notes: &mu
 
 /// The refusals, checked in the papers' order; with none, the bytes to write and the number of pieces.
 fn press(planted: Planted, asked: Asked, room: usize, notes: &mut Notes) -> Result<(Vec<u8>, u64), Refusal> {
-    let Asked { image, text, following, w, p } = asked;
+    let Asked { image, text, following, year, w, p } = asked;
     // 1, 2, 11 to 14, 3, 4
-    let table = open(planted, image, notes)?;
+    let table = open(planted, &[Form::Old, Form::Dated], Some(year), image, notes)?;
     // 5: W or P outside its limits
     if !(8..=60).contains(&w) || !(2..=40).contains(&p) {
         return Err((5, 0));
@@ -143,7 +166,7 @@ fn press(planted: Planted, asked: Asked, room: usize, notes: &mut Notes) -> Resu
         notes.note(Event::FullText);
     }
     let collapsed = collapse(text, notes);
-    let (signs, pieces) = table.translate(planted, &collapsed, following, notes);
+    let (signs, pieces) = table.translate(planted, &collapsed, Setting { following, year }, notes);
     let bytes = lay_out(planted, &signs, w as usize, p as usize, notes);
     // 8: output too short, at the bytes needed
     if bytes.len() > room {
@@ -152,7 +175,118 @@ fn press(planted: Planted, asked: Asked, room: usize, notes: &mut Notes) -> Resu
     Ok((bytes, pieces))
 }
 
+// The movers of request 6
+
+/// Moves a table the one way or the other, to the front of `out`, with an error planted or with
+/// none.
+pub fn move_table(planted: Planted, way: Way, image: &[u8], out: &mut [u8], notes: &mut Notes) -> Answer {
+    match moved(planted, way, image, out.len(), notes) {
+        Err((number, place)) => Answer { number, place, ..Answer::default() },
+        Ok(bytes) => {
+            out[..bytes.len()].copy_from_slice(&bytes);
+            Answer { written: bytes.len() as u64, ..Answer::default() }
+        }
+    }
+}
+
+/// The refusals of a mover in their order; with none, the image to write.
+fn moved(planted: Planted, way: Way, image: &[u8], room: usize, notes: &mut Notes) -> Result<Vec<u8>, Refusal> {
+    let (taken, given) = match way {
+        Way::Date => (Form::Old, Form::Dated),
+        Way::Undate => (Form::Dated, Form::Old),
+    };
+    // 1, to a table of the other form too; 2, 11 to 14, 3, 4
+    let table = open(planted, &[taken], None, image, notes).map_err(|refusal| {
+        note_refused_mover(way, refusal, image, room, notes);
+        refusal
+    })?;
+    let bytes = table.image(given);
+    // 17, moving back: the first dated record, after the table checks and before 8
+    if way == Way::Undate {
+        if let Some(index) = table.entries.iter().position(|entry| entry.years != ALWAYS) {
+            notes.dated_record(index, table.entries.len(), table.entries[index].years);
+            if bytes.len() > room {
+                notes.note(Event::DatedAndRoom);
+            }
+            let offset = 3 * table.letters.len() + Form::Dated.entry_size() * index;
+            return Err((17, if planted == Planted::IndexAsPlace { index } else { offset } as u64));
+        }
+    }
+    // 8: output too short, at the bytes needed
+    if bytes.len() > room {
+        return Err((8, bytes.len() as u64));
+    }
+    let events = [
+        (Event::MovedDate, way == Way::Date),
+        (Event::MovedUndate, way == Way::Undate),
+        (Event::MovedNoEntry, table.entries.is_empty()),
+        (Event::MovedFull, table.entries.len() == 1199),
+    ];
+    for (event, _) in events.iter().filter(|(_, met)| *met) {
+        notes.note(*event);
+    }
+    Ok(bytes)
+}
+
+/// Notes what else is to be refused where a mover answers a refusal of the table.
+fn note_refused_mover(way: Way, refusal: Refusal, image: &[u8], room: usize, notes: &mut Notes) {
+    let judged = open(Planted::Nothing, &[Form::Old, Form::Dated], None, image, &mut Notes::new());
+    match (refusal, judged) {
+        // A table that is right, but of the other form. What room it would need isn't said; the
+        // count takes that of the table as it is.
+        ((1, _), Ok(table)) => {
+            notes.note(if way == Way::Date { Event::OtherFormToDate } else { Event::OtherFormToUndate });
+            if image.len() > room {
+                notes.note(Event::OtherFormAndRoom);
+            }
+            if way == Way::Date && table.entries.iter().any(|entry| entry.years != ALWAYS) {
+                notes.note(Event::OtherFormDated);
+            }
+        }
+        ((1, _), Err((1, _))) => (),
+        ((1, _), Err(_)) => notes.note(Event::OtherFormAndWrong),
+        // Some record is dated besides.
+        (_, _) if way == Way::Undate => {
+            let Some(Sections { starts, .. }) = sections(&[Form::Dated], image, &mut Notes::new()) else { return };
+            let mut records = image[starts[1]..starts[2]].chunks(Form::Dated.entry_size());
+            if records.any(|record| years(Planted::Nothing, record) != ALWAYS) {
+                notes.note(Event::WrongAndDated);
+            }
+        }
+        _ => (),
+    }
+}
+
 // The table image
+
+/// The two forms of a table: the trailer's last byte is 51 or 52, a contraction record has 18 bytes
+/// or 22.
+#[derive(Clone, Copy, Debug, PartialEq, Eq)]
+enum Form {
+    Old,
+    Dated,
+}
+
+impl Form {
+    /// The form by the trailer's last byte.
+    fn of(mark: u8) -> Option<Form> {
+        [Form::Old, Form::Dated].into_iter().find(|form| form.mark() == mark)
+    }
+
+    fn mark(self) -> u8 {
+        match self {
+            Form::Old => 51,
+            Form::Dated => 52,
+        }
+    }
+
+    fn entry_size(self) -> usize {
+        match self {
+            Form::Old => 18,
+            Form::Dated => 22,
+        }
+    }
+}
 
 /// An alphabet record.
 struct Letter {
@@ -168,6 +302,8 @@ struct Entry {
     class: u8,
     shift: usize,
     signs: [u8; 4],
+    /// First and last, both counted in. A table in the old form counts as always in force.
+    years: (u16, u16),
 }
 
 /// A decision record: one byte per class, then one per state variable.
@@ -177,6 +313,8 @@ struct Column {
 }
 
 struct Table {
+    form: Form,
+    classes: usize,
     letters: Vec<Letter>,
     entries: Vec<Entry>,
     /// The four classes of each right context.
@@ -186,11 +324,18 @@ struct Table {
     columns: Vec<Column>,
 }
 
-/// Reads an image: the refusals of a table, or its table.
-fn open(planted: Planted, image: &[u8], notes: &mut Notes) -> Result<Table, Refusal> {
+/// Reads an image of one of these forms: the refusals of a table, or its table. The year is for a
+/// planted error and for what is noted: no rule of a table asks for it.
+fn open(
+    planted: Planted,
+    forms: &[Form],
+    year: Option<u16>,
+    image: &[u8],
+    notes: &mut Notes,
+) -> Result<Table, Refusal> {
     // 1: image under 14 bytes, or trailer or section lengths wrong
-    let Sections { starts, classes, variables } = sections(image, notes).ok_or((1, 0))?;
-    let sizes = [3, 18, 4, classes, classes + variables];
+    let Sections { form, starts, classes, variables } = sections(forms, image, notes).ok_or((1, 0))?;
+    let sizes = [3, form.entry_size(), 4, classes, classes + variables];
     let records = |section: usize| image[starts[section]..starts[section + 1]].chunks(sizes[section]);
 
     // 2 alphabet, 11 contractions, 12 contexts, 13 transitions, 14 decisions: wrong record, at the offset of the
@@ -230,6 +375,8 @@ fn open(planted: Planted, image: &[u8], notes: &mut Notes) -> Result<Table, Refu
     }
 
     let table = Table {
+        form,
+        classes,
         letters: records(0).map(|record| Letter { symbol: record[0], class: record[1], sign: record[2] }).collect(),
         entries: records(1)
             .map(|record| Entry {
@@ -238,6 +385,7 @@ fn open(planted: Planted, image: &[u8], notes: &mut Notes) -> Result<Table, Refu
                 class: record[12],
                 shift: record[13] as usize,
                 signs: [record[14], record[15], record[16], record[17]],
+                years: years(planted, record),
             })
             .collect(),
         contexts: records(2).map(<[u8]>::to_vec).collect(),
@@ -251,10 +399,22 @@ fn open(planted: Planted, image: &[u8], notes: &mut Notes) -> Result<Table, Refu
     if table.letter(BLANK).is_none() {
         return Err((3, 0));
     }
-    // 4: grouping broken, at the offset of the first record that breaks it
-    if let Some(number) = breaks_grouping(&table.entries) {
-        return Err((4, (starts[1] + 18 * number) as u64));
+    // 4: grouping broken, at the offset of the first record that breaks it; judged over all entries
+    let of_all: Vec<usize> = (0..table.entries.len()).collect();
+    let of_those_in_force: Vec<usize> = match year {
+        Some(year) => of_all.iter().copied().filter(|at| table.entries[*at].in_force(planted, year)).collect(),
+        None => of_all.clone(),
+    };
+    let judged = if planted == Planted::GroupingInForce { &of_those_in_force } else { &of_all };
+    if let Some(number) = breaks_grouping(&table.entries, judged) {
+        match breaks_grouping(&table.entries, &of_those_in_force) {
+            None => notes.note(Event::GroupedInForce),
+            Some(other) if other != number => notes.note(Event::OtherBreakInForce),
+            _ => (),
+        }
+        return Err((4, (starts[1] + sizes[1] * number) as u64));
     }
+    let dated = form == Form::Dated;
     let sizes = [
         (Event::FullAlphabet, table.letters.len() == 63),
         (Event::FullContractions, table.entries.len() == 1199),
@@ -264,6 +424,11 @@ fn open(planted: Planted, image: &[u8], notes: &mut Notes) -> Result<Table, Refu
         (Event::FullClasses, classes == 40),
         (Event::NoEntry, table.entries.is_empty()),
         (Event::NoColumn, table.columns.is_empty()),
+        (Event::DatedForm, dated),
+        (Event::DatedFull, dated && table.entries.len() == 1199),
+        (Event::DatedNoEntry, dated && table.entries.is_empty()),
+        (Event::DatedNoneInForce, !of_all.is_empty() && of_those_in_force.is_empty()),
+        (Event::DatedOneYear, table.entries.iter().any(|entry| entry.years.0 == entry.years.1)),
     ];
     for (event, _) in sizes.iter().filter(|(_, reached)| *reached) {
         notes.note(*event);
@@ -297,7 +462,34 @@ fn wrong_in_letter(record: &[u8], earlier: &[u8], classes: usize) -> WrongBytes 
     rules.into_iter().filter(|(_, _, kept)| !kept).map(|(byte, rule, _)| (byte, rule)).collect()
 }
 
-/// Of a contraction record: length, ten string bytes, right context, class, shift, four signs.
+/// The first and the last year of a contraction record: two-byte years after the signs, low byte
+/// first. A table in the old form counts as always in force.
+fn years(planted: Planted, record: &[u8]) -> (u16, u16) {
+    if record.len() == Form::Old.entry_size() {
+        return ALWAYS;
+    }
+    let year = |byte: usize| {
+        let (low, high) = (record[byte] as u16, record[byte + 1] as u16);
+        if planted == Planted::YearsHighFirst { high + 256 * low } else { low + 256 * high }
+    };
+    (year(18), year(20))
+}
+
+/// By which of its bytes a first year comes after the last, if it does.
+fn wrong_years((first, last): (u16, u16)) -> Option<Event> {
+    if first <= last {
+        None
+    } else if first / 256 == last / 256 {
+        Some(Event::AloneYearsLow)
+    } else if first % 256 < last % 256 {
+        Some(Event::AloneYearsHighAgainstLow)
+    } else {
+        Some(Event::AloneYearsHigh)
+    }
+}
+
+/// Of a contraction record: length, ten string bytes, right context, class, shift, four signs; in
+/// the dated form first and last year.
 fn wrong_in_entry(planted: Planted, record: &[u8], symbols: &[u8], contexts: usize, classes: usize) -> WrongBytes {
     const CONTEXT: usize = 11;
     const CLASS: usize = 12;
@@ -342,6 +534,10 @@ fn wrong_in_entry(planted: Planted, record: &[u8], symbols: &[u8], contexts: usi
             }
         }
     }
+    // first year after last is a wrong record, at the first-year byte
+    if let Some(event) = wrong_years(years(planted, record)) {
+        wrong.push((18, event));
+    }
     wrong
 }
 
@@ -369,14 +565,16 @@ fn wrong_in_decision(record: &[u8], classes: usize) -> WrongBytes {
 }
 
 struct Sections {
+    form: Form,
     /// Where each section starts, and where the last one ends.
     starts: [usize; 6],
     classes: usize,
     variables: usize,
 }
 
-/// The five sections, if the trailer and the section lengths are right.
-fn sections(image: &[u8], notes: &mut Notes) -> Option<Sections> {
+/// The five sections, if the image has one of these forms and the trailer and the section lengths
+/// are right.
+fn sections(forms: &[Form], image: &[u8], notes: &mut Notes) -> Option<Sections> {
     if image.len() < TRAILER {
         notes.note(Event::UnderTrailer);
         return None;
@@ -386,8 +584,11 @@ fn sections(image: &[u8], notes: &mut Notes) -> Option<Sections> {
     // Two-byte numbers are low byte first.
     let distance = |section: usize| trailer[2 * section] as usize + 256 * trailer[2 * section + 1] as usize;
     let (classes, variables) = (trailer[10] as usize, trailer[11] as usize);
+    let of_the_mark = Form::of(trailer[13]);
+    let form = of_the_mark.unwrap_or(Form::Old);
     let mut rules = vec![
-        (Event::AloneMark, trailer[12] == 66 && trailer[13] == 51),
+        (Event::AloneMark, trailer[12] == 66 && of_the_mark.is_some()),
+        (Event::AloneForm, of_the_mark.map_or(true, |form| forms.contains(&form))),
         (Event::AloneClasses, (1..=40).contains(&classes)),
         (Event::AloneVariables, variables <= 15),
         // The first distance equals the length of all five sections.
@@ -399,7 +600,7 @@ fn sections(image: &[u8], notes: &mut Notes) -> Option<Sections> {
     } else {
         let allowed = [
             (Event::AloneLetters, 3, 1..=63),
-            (Event::AloneEntries, 18, 0..=1199),
+            (Event::AloneEntries, form.entry_size(), 0..=1199),
             (Event::AloneContexts, 4, 0..=5),
             (Event::AloneTransitions, classes, variables..=variables),
             (Event::AloneColumns, classes + variables, 0..=20),
@@ -419,25 +620,73 @@ fn sections(image: &[u8], notes: &mut Notes) -> Option<Sections> {
     for section in 0..5 {
         starts[section] = end - distance(section);
     }
-    Some(Sections { starts, classes, variables })
+    Some(Sections { form, starts, classes, variables })
 }
 
-/// The first record that breaks the grouping: if two agree in their first p characters, all records between
-/// them agree in those too. It agrees with some earlier record in more characters than with one between them.
-fn breaks_grouping(entries: &[Entry]) -> Option<usize> {
+/// The first record of those judged that breaks the grouping: if two agree in their first p
+/// characters, all records between them agree in those too. It agrees with some earlier record in
+/// more characters than with one between them.
+fn breaks_grouping(entries: &[Entry], judged: &[usize]) -> Option<usize> {
     let agreement = |a: usize, b: usize| -> usize {
         let (a, b) = (&entries[a].string, &entries[b].string);
         a.iter().zip(b).take_while(|(x, y)| x == y).count()
     };
-    (0..entries.len()).find(|&later| {
+    let breaks = |&later: &usize| {
         let mut least_between = 10;
-        (0..later).rev().any(|earlier| {
-            let agreed = agreement(earlier, later);
+        judged[..later].iter().rev().any(|earlier| {
+            let agreed = agreement(*earlier, judged[later]);
             let broken = agreed > least_between;
             least_between = least_between.min(agreed);
             broken
         })
-    })
+    };
+    (0..judged.len()).find(breaks).map(|at| judged[at])
+}
+
+impl Entry {
+    /// Whether the year is within the entry's years, first and last, both counted in.
+    fn in_force(&self, planted: Planted, year: u16) -> bool {
+        let (first, last) = self.years;
+        // The planted errors leave 0 and 65,535 alone, which would show them in every table.
+        let first_out = planted == Planted::FirstYearOut && year == first && first > ALWAYS.0;
+        let last_out = planted == Planted::LastYearOut && year == last && last < ALWAYS.1;
+        first <= year && year <= last && !first_out && !last_out
+    }
+
+    /// The bytes of its record in a form.
+    fn record(&self, form: Form) -> Vec<u8> {
+        let mut record = vec![self.string.len() as u8];
+        record.extend(&self.string);
+        record.resize(11, 0);
+        record.extend([self.context as u8, self.class, self.shift as u8]);
+        record.extend(self.signs);
+        if form == Form::Dated {
+            record.extend(self.years.0.to_le_bytes());
+            record.extend(self.years.1.to_le_bytes());
+        }
+        record
+    }
+}
+
+impl Table {
+    /// The image of the table in a form: the five sections back to back, and the trailer that
+    /// points back.
+    fn image(&self, form: Form) -> Vec<u8> {
+        let sections: [Vec<u8>; 5] = [
+            self.letters.iter().flat_map(|letter| [letter.symbol, letter.class, letter.sign]).collect(),
+            self.entries.iter().flat_map(|entry| entry.record(form)).collect(),
+            self.contexts.concat(),
+            self.transitions.concat(),
+            self.columns.iter().flat_map(|column| [&column.classes[..], &column.variables].concat()).collect(),
+        ];
+        let mut image = sections.concat();
+        for section in 0..5 {
+            let distance: usize = sections[section..].iter().map(Vec::len).sum();
+            image.extend((distance as u16).to_le_bytes());
+        }
+        image.extend([self.classes as u8, self.transitions.len() as u8, 66, form.mark()]);
+        image
+    }
 }
 
 // Collapsing the text
@@ -482,6 +731,13 @@ fn collapse(text: &[u8], notes: &mut Notes) -> Vec<u8> {
 
 // Translation
 
+/// What translation is told besides the table and the text.
+#[derive(Clone, Copy)]
+struct Setting {
+    following: u8,
+    year: u16,
+}
+
 impl Table {
     fn letter(&self, symbol: u8) -> Option<&Letter> {
         self.letters.iter().find(|letter| letter.symbol == symbol)
@@ -494,7 +750,7 @@ impl Table {
 
     /// The signs of all pieces in order, and the number of pieces. The following symbol is only looked at, never
     /// consumed: it is no part of the rest.
-    fn translate(&self, planted: Planted, collapsed: &[u8], following: u8, notes: &mut Notes) -> (Vec<u8>, u64) {
+    fn translate(&self, planted: Planted, collapsed: &[u8], setting: Setting, notes: &mut Notes) -> (Vec<u8>, u64) {
         // All state variables start at no, and no section's states pass to the next.
         let mut states = vec![false; self.transitions.len()];
         let mut signs = vec![];
@@ -502,7 +758,7 @@ impl Table {
         // At each place the search is given the rest of the text from that place on.
         let mut rest = collapsed;
         while !rest.is_empty() {
-            let (class, shift) = match self.choose(planted, rest, following, &states, notes) {
+            let (class, shift) = match self.choose(planted, rest, setting, &states, notes) {
                 // The first admissible entry in table order gives a piece of shift characters and its signs.
                 Some(entry) => {
                     notes.note(Event::EntryPiece);
@@ -552,16 +808,20 @@ impl Table {
         &self,
         planted: Planted,
         rest: &[u8],
-        following: u8,
+        setting: Setting,
         states: &[bool],
         notes: &mut Notes,
     ) -> Option<&Entry> {
-        let first = self.entries.iter().find(|entry| self.admissible(planted, entry, rest, following, states, notes))?;
+        let first = self.entries.iter().find(|entry| self.admissible(planted, entry, rest, setting, states, notes));
+        if self.form == Form::Dated {
+            self.note_passed_over(first, rest, setting, states, notes);
+        }
+        let first = first?;
         let mut longest = first;
         let mut unnoted = Notes::new();
         for entry in &self.entries {
             let longer = entry.string.len() > longest.string.len();
-            if longer && self.admissible(planted, entry, rest, following, states, &mut unnoted) {
+            if longer && self.admissible(planted, entry, rest, setting, states, &mut unnoted) {
                 longest = entry;
             }
         }
@@ -571,18 +831,43 @@ impl Table {
         Some(if planted == Planted::LongestEntry { longest } else { first })
     }
 
+    /// Notes whether an entry outside its years would have been chosen.
+    fn note_passed_over(&self, chosen: Option<&Entry>, rest: &[u8], setting: Setting, states: &[bool], notes: &mut Notes) {
+        let Setting { following, year } = setting;
+        let mut unnoted = Notes::new();
+        let mut passed = |entry: &&Entry| {
+            let in_its_year = Setting { following, year: entry.years.0 };
+            self.admissible(Planted::Nothing, entry, rest, in_its_year, states, &mut unnoted)
+        };
+        let Some(first) = self.entries.iter().find(|entry| passed(entry)) else { return };
+        if first.in_force(Planted::Nothing, year) {
+            return;
+        }
+        notes.note(match chosen {
+            None => Event::PassedForLetter,
+            Some(chosen) if chosen.string == first.string => Event::PassedForSame,
+            Some(_) => Event::PassedForOther,
+        });
+    }
+
     /// Whether an entry is admissible at the front of this rest.
     fn admissible(
         &self,
         planted: Planted,
         entry: &Entry,
         rest: &[u8],
-        following: u8,
+        setting: Setting,
         states: &[bool],
         notes: &mut Notes,
     ) -> bool {
+        let Setting { following, year } = setting;
         // Its whole string begins that rest;
         if !rest.starts_with(&entry.string) {
+            return false;
+        }
+        // entries outside their years are passed over;
+        notes.year_of_entry(year, entry.years);
+        if !entry.in_force(planted, year) {
             return false;
         }
         // its right context is 0 or holds the class of the character after the whole string (not after the
@@ -880,9 +1165,16 @@ mod tests {
                 (0..5).map(|place| strings[list / strings.len().pow(place) % strings.len()]).collect();
             let entries: Vec<Entry> = chosen
                 .iter()
-                .map(|string| Entry { string: string.to_vec(), context: 0, class: 1, shift: 1, signs: [99; 4] })
+                .map(|string| Entry {
+                    string: string.to_vec(),
+                    context: 0,
+                    class: 1,
+                    shift: 1,
+                    signs: [99; 4],
+                    years: ALWAYS,
+                })
                 .collect();
-            assert_eq!(breaks_grouping(&entries), breaks_in_the_papers_words(&chosen), "{chosen:?}");
+            assert_eq!(breaks_grouping(&entries, &[0, 1, 2, 3, 4]), breaks_in_the_papers_words(&chosen), "{chosen:?}");
         }
     }
 }

@@ -1,6 +1,9 @@
 //! A table as a person writes it, and the image made from it. The readable form has one record to a line;
 //! nothing here checks a table, since damaged ones are written too.
 
+/// The years of an entry that is always in force.
+pub const ALWAYS: (u16, u16) = (0, 65_535);
+
 /// One contraction record.
 #[derive(Clone, Debug)]
 pub struct Entry {
@@ -9,9 +12,12 @@ pub struct Entry {
     pub class: u8,
     pub shift: u8,
     pub signs: [u8; 4],
+    /// The first and the last year, which an image of the old form doesn't hold.
+    pub years: (u16, u16),
 }
 
 impl Entry {
+    /// The 18 bytes of the record in the old form.
     fn record(&self) -> [u8; 18] {
         let mut record = [0; 18];
         record[0] = self.string.len() as u8;
@@ -22,11 +28,19 @@ impl Entry {
         record[14..].copy_from_slice(&self.signs);
         record
     }
+
+    /// The four bytes that the dated form has after these.
+    fn years(&self) -> [u8; 4] {
+        let ([a, b], [c, d]) = (self.years.0.to_le_bytes(), self.years.1.to_le_bytes());
+        [a, b, c, d]
+    }
 }
 
 /// The five sections, with the numbers that the trailer states.
 #[derive(Clone, Debug, Default)]
 pub struct Table {
+    /// Whether the image has the dated form.
+    pub dated: bool,
     pub classes: u8,
     pub variables: u8,
     /// Symbol, class, sign.
@@ -38,11 +52,22 @@ pub struct Table {
 }
 
 impl Table {
+    /// The bytes of a contraction record.
+    pub fn entry_size(&self) -> usize {
+        if self.dated { 22 } else { 18 }
+    }
+
+    /// The trailer's last byte.
+    pub fn mark(&self) -> u8 {
+        if self.dated { 52 } else { 51 }
+    }
+
     /// The bytes of each section, in order.
     pub fn sections(&self) -> [Vec<u8>; 5] {
+        let years = |entry: &Entry| if self.dated { entry.years().to_vec() } else { vec![] };
         [
             self.alphabet.concat(),
-            self.entries.iter().flat_map(|entry| entry.record()).collect(),
+            self.entries.iter().flat_map(|entry| [entry.record().to_vec(), years(entry)].concat()).collect(),
             self.contexts.concat(),
             self.transitions.concat(),
             self.decisions.concat(),
@@ -59,7 +84,7 @@ impl Table {
             trailer.extend((distance as u16).to_le_bytes());
             distance -= section.len();
         }
-        trailer.extend([self.classes, self.variables, 66, 51]);
+        trailer.extend([self.classes, self.variables, 66, self.mark()]);
         image.extend(trailer);
         image
     }
@@ -73,6 +98,10 @@ impl Table {
 /// variables 1
 /// letter blank 2 0          symbol (a character, or the word blank), class, sign
 /// entry COM 4 - 3 : 36      string (_ for a blank), class, context or -, shift or =, signs
+/// entry COM 4 - = : 36 @ 1932 2015
+///                           the same with its first and last year, - for none
+/// dated                     the image has the dated form, as it has where an entry has years;
+///                           an entry without years is always in force
 /// context 2 3 3 3
 /// transition SR-SS
 /// decision GGGNY Y          one byte per class, then one per variable
@@ -82,6 +111,10 @@ pub fn read(words: &str) -> Result<Table, String> {
     for (number, line) in words.lines().enumerate() {
         let line_is_wrong = |what: &str| format!("line {}: {what}: {line}", number + 1);
         let small = |word: &str| word.parse::<u8>().map_err(|_| line_is_wrong("not a small number"));
+        let year = |word: &str, none: u16| match word {
+            "-" => Ok(none),
+            _ => word.parse::<u16>().map_err(|_| line_is_wrong("not a year")),
+        };
         let parts: Vec<&str> = line.split_whitespace().collect();
         match parts.as_slice() {
             [] => (),
@@ -92,7 +125,15 @@ pub fn read(words: &str) -> Result<Table, String> {
                 let symbol = if *symbol == "blank" { b' ' } else { symbol.as_bytes()[0] };
                 table.alphabet.push([symbol, small(class)?, small(sign)?]);
             }
+            ["dated"] => table.dated = true,
             ["entry", string, class, context, shift, ":", written @ ..] => {
+                let (written, years) = match written {
+                    [written @ .., "@", first, last] => {
+                        table.dated = true;
+                        (written, (year(first, ALWAYS.0)?, year(last, ALWAYS.1)?))
+                    }
+                    _ => (written, ALWAYS),
+                };
                 let string: Vec<u8> = string.bytes().map(|byte| if byte == b'_' { b' ' } else { byte }).collect();
                 if string.len() > 10 || written.len() > 4 {
                     return Err(line_is_wrong("more than ten characters or four signs"));
@@ -106,6 +147,7 @@ pub fn read(words: &str) -> Result<Table, String> {
                     class: small(class)?,
                     shift: if *shift == "=" { string.len() as u8 } else { small(shift)? },
                     signs,
+                    years,
                     string,
                 });
             }

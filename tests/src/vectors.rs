@@ -1,9 +1,10 @@
-//! The outside vectors: texts with the cells that others printed for them, by a table made for those texts.
-//! Each goes to the program and to the reference with a blank following, and both have to give the printed bytes.
+//! The outside vectors: texts with the cells that others printed for them, by a table made for
+//! those texts. Each goes to the program and to the reference with a blank following, and both have
+//! to give the printed bytes. Their tables are in the old form, so the year is any.
 
 use crate::counts::Notes;
-use crate::generate::Case;
-use crate::reference::emboss;
+use crate::generate::{Case, Question};
+use crate::reference::Planted;
 use crate::{difference, lent_buffer, run_program, table};
 
 /// Runs every vector file of a folder: NAME.vectors with its NAME.table.
@@ -29,7 +30,7 @@ pub fn run(folder: &str, program: &[String]) -> Result<(), String> {
         for ((case, printed), outcome) in vectors.iter().zip(&answers) {
             let text = String::from_utf8_lossy(&case.text);
             let mut own = lent_buffer(case.room);
-            let own_answer = emboss(case.asked(), &mut own, &mut Notes::new());
+            let own_answer = case.answer(Planted::Nothing, &mut own, &mut Notes::new());
             let own_wrote = &own[..own_answer.written as usize];
             let wrong = |what: String| Err(format!("{name}: {text}: printed {printed:?}, {what}"));
             if own_answer.number != 0 || own_wrote != printed {
@@ -60,7 +61,9 @@ pub fn vectors(image: &[u8], words: &str) -> Result<Vec<(Case, Vec<u8>)>, String
             "text" => {
                 let text = rest.bytes().map(|byte| if byte == b'_' { b' ' } else { byte }).collect();
                 let image = image.to_vec();
-                let case = Case { seed: 0, kinds: vec![], image, text, following: b' ', w, p, room: 1000 };
+                let question = Question::Emboss;
+                let (following, year, room) = (b' ', 1970, 1000);
+                let case = Case { seed: 0, kinds: vec![], question, image, text, following, year, w, p, room };
                 vectors.push((case, vec![]));
             }
             "cells" => {
@@ -89,7 +92,7 @@ mod tests {
             let image = table::read(table).unwrap().image();
             for (case, printed) in vectors(&image, words).unwrap() {
                 let mut out = vec![0; case.room];
-                let answer = emboss(case.asked(), &mut out, &mut Notes::new());
+                let answer = case.answer(Planted::Nothing, &mut out, &mut Notes::new());
                 assert_eq!(answer.number, 0);
                 assert_eq!(out[..answer.written as usize], printed, "{}", String::from_utf8_lossy(&case.text));
             }

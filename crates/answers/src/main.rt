@@ -1,32 +1,38 @@
 // Answers many cases in one run, for the comparison in tests/: reads cases from standard input, one
-// after another until it ends, and writes to standard output what the whole call answers to each
-// and every byte of the buffer that was lent. Numbers are low byte first.
+// after another until it ends, and writes to standard output what the call that is asked answers to
+// each and every byte of the buffer that was lent. Numbers are low byte first.
 //
-// A case:     4 bytes  length of the table image, at most 65,536
+// A case:     4 bytes  what is asked: 0 the whole call, 1 to date the table, 2 to undate it
+//             4 bytes  length of the table image, at most 65,536
 //             4 bytes  length of the text, at most 17,000
 //             8 bytes  W, any 64-bit number
 //             8 bytes  P, any 64-bit number
 //             8 bytes  the symbol that follows the text, of which the first byte counts
+//             8 bytes  the year, of which the first two bytes count
 //             4 bytes  output room, at most 163,840
 //             the image, then the text
 // Its answer: 1 byte   number
 //             8 bytes  each: place, bytes written, pieces, lines, pages
 //             the whole buffer of `room` bytes after the call; before it byte i, counted from 0, was the low eight bits of 7 i + 13
 //
-// A case over these limits, or one that the input cuts short, gets no answer, and the run ends
-// there. The file stdin beside this folder has two cases by the paper's table, COME with 8 bytes of
-// room and `A|a` with 4, and stdout their answers.
+// To date or to undate a table, text, W, P, symbol and year are read and not looked at, and pieces,
+// lines and pages are 0. A case over these limits, or one that the input cuts short, gets no answer,
+// and the run ends there. The file stdin beside this folder has six cases, and stdout their answers:
+// by the paper's table COME with 8 bytes of room and `A|a` with 4, and to date it with 246; by the
+// dated one, COM from 1932 to 2015, COME in 2015 and in 2016, and to undate it, refused 17.
 
 ghost use Prim.Native.Nat.{_≤_};
 ghost use Rattle.io.specs.Counts.{Counts};
+use dates::Moved;
 use layout::Answer;
 use libc::STDIN_FILENO;
 use libc::STDOUT_FILENO;
 use pages::Sheet;
 use translation::Setting;
 
-// The sizes of a case.
+// What a case asks, and its sizes.
 struct Head {
+    asked: usize,
     image: usize,
     text: usize,
     sheet: Sheet,
@@ -38,9 +44,20 @@ fn wide(b: u8) -> usize {
     b as usize
 }
 
+fn year_byte(b: u8) -> u16 {
+    b as u16
+}
+
+// The year in the two bytes from `at` on.
+fn two(head: &[u8; 48], at: usize) -> u16
+    requires { ⌜ at ≤ 46 ⌝ }
+{
+    year_byte(head[at]) | (year_byte(head[at + 1]) << 8)
+}
+
 // The number in the four bytes from `at` on.
-fn four(head: &[u8; 36], at: usize) -> usize
-    requires { ⌜ at ≤ 32 ⌝ }
+fn four(head: &[u8; 48], at: usize) -> usize
+    requires { ⌜ at ≤ 44 ⌝ }
 {
     let low = wide(head[at]) | (wide(head[at + 1]) << 8);
     let high = wide(head[at + 2]) | (wide(head[at + 3]) << 8);
@@ -48,24 +65,26 @@ fn four(head: &[u8; 36], at: usize) -> usize
 }
 
 // The number in the eight bytes from `at` on.
-fn eight(head: &[u8; 36], at: usize) -> usize
-    requires { ⌜ at ≤ 28 ⌝ }
+fn eight(head: &[u8; 48], at: usize) -> usize
+    requires { ⌜ at ≤ 40 ⌝ }
 {
     four(head, at) | (four(head, at + 4) << 32)
 }
 
-fn read_head(head: &[u8; 36]) -> Head {
+fn read_head(head: &[u8; 48]) -> Head {
     Head {
-        image: four(head, 0),
-        text: four(head, 4),
+        asked: four(head, 0),
+        image: four(head, 4),
+        text: four(head, 8),
         sheet: Sheet {
-            width: eight(head, 8),
-            length: eight(head, 16),
+            width: eight(head, 12),
+            length: eight(head, 20),
         },
         setting: Setting {
-            following: head[24],
+            following: head[28],
+            year: two(head, 36),
         },
-        room: four(head, 32),
+        room: four(head, 44),
     }
 }
 
@@ -109,6 +128,16 @@ fn write_answer(answer: Answer) -> bool {
         & write_eight(answer.pages())
 }
 
+// The answer of a mover, which has no pieces, lines and pages.
+fn write_moved(answer: Moved) -> bool {
+    io::write_all(STDOUT_FILENO, &[answer.number()])
+        & write_eight(answer.place())
+        & write_eight(answer.written())
+        & write_eight(0)
+        & write_eight(0)
+        & write_eight(0)
+}
+
 // Reads the next `n` bytes of the input into the front of the buffer, and answers how many came;
 // none where the buffer hasn't the room.
 fn read_front(bytes: &mut [u8], n: usize) -> usize
@@ -120,20 +149,59 @@ fn read_front(bytes: &mut [u8], n: usize) -> usize
     io::read_full(STDIN_FILENO, &mut bytes[..n])
 }
 
-// Answers one case into a buffer.
-fn answer_into(setting: Setting, image: &[u8], text: &[u8], sheet: Sheet, out: &mut [u8]) -> bool {
+// Answers the whole call into a buffer.
+fn emboss_into(setting: Setting, image: &[u8], text: &[u8], sheet: Sheet, out: &mut [u8]) -> bool {
     prepare(out);
     let answer = layout::emboss(setting, image, text, sheet, out);
     write_answer(answer) & io::write_all(STDOUT_FILENO, out)
 }
 
+// Moves a table to the dated form, into a buffer.
+fn date_into(image: &[u8], out: &mut [u8]) -> bool {
+    prepare(out);
+    let answer = dates::date(image, out);
+    write_moved(answer) & io::write_all(STDOUT_FILENO, out)
+}
+
+// Moves a table back to the old form, into a buffer.
+fn undate_into(image: &[u8], out: &mut [u8]) -> bool {
+    prepare(out);
+    let answer = dates::undate(image, out);
+    write_moved(answer) & io::write_all(STDOUT_FILENO, out)
+}
+
+// Answers one case into a buffer, by what it asks.
+fn answer_into(
+    asked: usize,
+    setting: Setting,
+    image: &[u8],
+    text: &[u8],
+    sheet: Sheet,
+    out: &mut [u8],
+) -> bool {
+    if asked == 0 {
+        return emboss_into(setting, image, text, sheet, out);
+    }
+    if asked == 1 {
+        return date_into(image, out);
+    }
+    undate_into(image, out)
+}
+
 // Answers one case with so much room.
-fn answer(setting: Setting, image: &[u8], text: &[u8], sheet: Sheet, room: usize) -> bool {
+fn answer(
+    asked: usize,
+    setting: Setting,
+    image: &[u8],
+    text: &[u8],
+    sheet: Sheet,
+    room: usize,
+) -> bool {
     let mut out = [0u8; 163840];
     if out.len() < room {
         return false;
     }
-    answer_into(setting, image, text, sheet, &mut out[..room])
+    answer_into(asked, setting, image, text, sheet, &mut out[..room])
 }
 
 // Answers the case with this head, whose image and text follow.
@@ -142,10 +210,11 @@ fn answer_with(head: Head) -> bool {
     let held = read_front(&mut image, head.image);
     let mut text = [0u8; 17000];
     let length = read_front(&mut text, head.text);
-    if (held != head.image) | (length != head.text) {
+    if (held != head.image) | (length != head.text) | (2 < head.asked) {
         return false;
     }
     answer(
+        head.asked,
         head.setting,
         &image[..held],
         &text[..length],
@@ -156,8 +225,8 @@ fn answer_with(head: Head) -> bool {
 
 // Answers the next case, and says whether there was one.
 fn answer_next() -> bool {
-    let mut head = [0u8; 36];
-    if io::read_full(STDIN_FILENO, &mut head) != 36 {
+    let mut head = [0u8; 48];
+    if io::read_full(STDIN_FILENO, &mut head) != 48 {
         return false;
     }
     answer_with(read_head(&head))

@@ -12,7 +12,10 @@ fn translate(image: &[u8], text: &[u8]) {
         width: 8,
         length: 2,
     };
-    let setting = Setting { following: 32 };
+    let setting = Setting {
+        following: 32,
+        year: 65535,
+    };
     let answer = layout::emboss(setting, image, text, sheet, &mut out);
     if console::print_answer(answer) {
         console::print_pages(&out[..answer.written()]);

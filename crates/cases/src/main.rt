@@ -1,7 +1,8 @@
-// The paper's run cases: what the whole call answers at its limits, for refusals 1 to 8 and 15 with
-// their places, where two refusals hold at once, for words that are cut, and by what follows the
-// text. Each case prints its answer in the form of `brailleout`. Some go on with the cells and
-// pages; the others say whether the bytes lent are as they were.
+// The papers' run cases: what the whole call answers at its limits, for refusals 1 to 8, 11 and 15
+// with their places, where two refusals hold at once, for words that are cut, by what follows the
+// text, and in years at the edges of an entry's. Each case prints its answer in the form of
+// `brailleout`. Some go on with the cells and pages; the others say whether the bytes lent are as
+// they were.
 use libc::STDOUT_FILENO;
 use pages::Sheet;
 use translation::Setting;
@@ -13,8 +14,20 @@ fn sheet(width: usize, length: usize) -> Sheet {
     }
 }
 
+// With this symbol following, by the entries that have no end.
 fn follows(symbol: u8) -> Setting {
-    Setting { following: symbol }
+    Setting {
+        following: symbol,
+        year: 65535,
+    }
+}
+
+// In this year, with a blank following.
+fn in_year(year: u16) -> Setting {
+    Setting {
+        following: b' ',
+        year: year,
+    }
 }
 
 // The answer, the cells and the pages.
@@ -141,6 +154,29 @@ fn sections(image: &[u8]) {
     tell(follows(b'a'), image, &blind, sheet(8, 2), &mut [170; 0]);
 }
 
+// COME in 1931, 1932, 2015 and 2016.
+fn in_years(dated: &[u8]) {
+    let come = [b'C', b'O', b'M', b'E'];
+    show(in_year(1931), dated, &come, sheet(8, 2));
+    show(in_year(1932), dated, &come, sheet(8, 2));
+    show(in_year(2015), dated, &come, sheet(8, 2));
+    show(in_year(2016), dated, &come, sheet(8, 2));
+}
+
+// The table dated, with COM in force from 1932 to 2015: COME in the years at these edges; with COM
+// from 2016 to 2015 (11, at the first-year byte).
+fn years(image: &[u8]) {
+    let mut dated = [0u8; 246];
+    dates::date(image, &mut dated);
+    dated[75] = 140;
+    dated[76] = 7;
+    dated[77] = 223;
+    dated[78] = 7;
+    in_years(&dated);
+    dated[75] = 224;
+    answered(&dated, &[b'A'], sheet(8, 2));
+}
+
 fn all(image: &[u8]) {
     cut_words(image);
     words(image);
@@ -149,6 +185,7 @@ fn all(image: &[u8]) {
     text_and_room(image);
     orders(image);
     sections(image);
+    years(image);
 }
 
 // A wrong byte: of a letter's class (2, at that byte), of the blank's symbol (3), of an entry's

@@ -1,6 +1,6 @@
--- What follows the end of the text, over the whole call. With a blank following it answers as document 01 alone has it, and never with 15, whatever the
--- table is. Two symbols of one
--- class give one answer and output, and so do any two where no entry has a right context, unless 15 is the answer to one of them.
+-- What follows the end of the text, over the whole call. With a blank following it answers as it did when the end of a text counted as a blank, in every year
+-- and by every table; and never with 15, whatever the table is. Two symbols of one class give one answer and output, and so do any two where no
+-- entry has a right context, unless 15 is the answer to one of them.
 use Prim.Native.Nat.{ℕ, _≤_, _<_}
 use mathlib.Core.Bool.{Bool, true, false}
 use mathlib.Core.List.{List}
@@ -10,7 +10,8 @@ use native.Mathlib.Decide.{decLe}
 use native.Mathlib.Omega.{arith}
 use lib.ListN.{length}
 use borrow.Author.Tests.{le-leb, lt-leb}
-use Rattle.table.specs.Numbers.{blank, numberFollowing, mostText}
+use Rattle.table.specs.Numbers.{blank, numberFollowing, mostText, latestYear}
+use Rattle.table.specs.Sections.{isDated}
 use Rattle.table.specs.Refusals.{tableLines, Line as TableLine, line-1, line-2, line-11, line-12, line-13, line-14, line-3, line-4}
 use Rattle.table.proofs.Refusals.{accepted-exactly-when, within-table}
 use Rattle.layout.specs.Refusals.{Line, of-table, line-5, line-6, line-7, line-15, line-8}
@@ -32,7 +33,8 @@ use Rattle.translation.proofs.Following.{NoContexts, same-class-same-pieces, no
 use Rattle.pages.specs.Volume.{sheetVerdict}
 use Rattle.pages.specs.declared.Sheet.{Sheet}
 use Rattle.layout.specs.Emboss.{number, place, Outcome, refused, laid, termsOf, embossing}
-use Rattle.layout.specs.Before.{blankFollows, madeBefore, onBefore, embossedBefore}
+use Rattle.layout.proofs.Years.{old-tables-any-year}
+use Rattle.layout.specs.Before.{blankIn, madeBefore, onBefore, embossedBefore}
 
 -- ---- A blank follows
 
@@ -40,44 +42,51 @@ use Rattle.layout.specs.Before.{blankFollows, madeBefore, onBefore, embo
 pub blank-never-15 : (image : List ℕ) → verdictOf image ≡ Accepted → FollowingUnknown (tableOf image .letters) blank → ⊥
 blank-never-15 image accepted unknown = unknown (accepted-sound image accepted .blank-known)
 
-module _ (image text : List ℕ) where
+module _ (year : ℕ) (image text : List ℕ) where
   blank-known : verdictOf image ≡ Accepted → isKnown (tableOf image .letters) blank ≡ true
   blank-known accepted = known-exactly-when (tableOf image .letters) blank .1 (accepted-sound image accepted .blank-known)
 
-  made-as-before : verdictOf image ≡ Accepted → translateBy (tableOf image) blankFollows text ≡ madeBefore (tableOf image) text
+  made-as-before : verdictOf image ≡ Accepted → translateBy (tableOf image) (blankIn year) text ≡ madeBefore year (tableOf image) text
   unfolding madeBefore
   made-as-before accepted = by-length (decLe (length text) mostText)
     where
       by-letters : length text ≤ mostText → (o : Option ℕ) → firstUnknown (tableOf image .letters) text ≡ o
-          → translateBy (tableOf image) blankFollows text ≡ madeBefore (tableOf image) text
+          → translateBy (tableOf image) (blankIn year) text ≡ madeBefore year (tableOf image) text
       by-letters short none f =
-          made-by (tableOf image) blankFollows text short f (blank-known accepted) ∙ sym (rw (le-leb (length text) mostText short, madeBefore, f))
+          made-by (tableOf image) (blankIn year) text short f (blank-known accepted) ∙ sym (rw (le-leb (length text) mostText short, madeBefore, f))
       by-letters short (some at) f =
-          unknown-at (tableOf image) blankFollows text at short f ∙ sym (rw (le-leb (length text) mostText short, madeBefore, f))
+          unknown-at (tableOf image) (blankIn year) text at short f ∙ sym (rw (le-leb (length text) mostText short, madeBefore, f))
 
-      by-length : Dec (length text ≤ mostText) → translateBy (tableOf image) blankFollows text ≡ madeBefore (tableOf image) text
+      by-length : Dec (length text ≤ mostText) → translateBy (tableOf image) (blankIn year) text ≡ madeBefore year (tableOf image) text
       by-length (yes short) = by-letters short (firstUnknown (tableOf image .letters) text) refl
       by-length (no d) =
           let long : mostText < length text = omega arith in
-          too-long (tableOf image) blankFollows text long ∙ sym (rw (lt-leb (length text) mostText long, madeBefore))
+          too-long (tableOf image) (blankIn year) text long ∙ sym (rw (lt-leb (length text) mostText long, madeBefore))
 
-  on-as-before : (sheet : Sheet) → translateOn (termsOf blankFollows sheet) image text ≡ onBefore (sheetVerdict sheet) image text
+  on-as-before : (sheet : Sheet) → translateOn (termsOf (blankIn year) sheet) image text ≡ onBefore year (sheetVerdict sheet) image text
   unfolding onBefore
   on-as-before sheet = go (verdictOf image) refl (sheetVerdict sheet) refl
     where
       go : (v : Verdict) → verdictOf image ≡ v → (a : Verdict) → sheetVerdict sheet ≡ a
-          → translateOn (termsOf blankFollows sheet) image text ≡ onBefore (sheetVerdict sheet) image text
-      go (NotAccepted r) e a f = table-refused (termsOf blankFollows sheet) image text r e ∙ sym (rw (e, onBefore))
-      go Accepted e (NotAccepted r) f = also-refused (termsOf blankFollows sheet) image text r e f ∙ sym (rw (e, f, onBefore))
-      go Accepted e Accepted f = goes-on (termsOf blankFollows sheet) image text e f ∙ made-as-before e ∙ sym (rw (e, f, onBefore))
+          → translateOn (termsOf (blankIn year) sheet) image text ≡ onBefore year (sheetVerdict sheet) image text
+      go (NotAccepted r) e a f = table-refused (termsOf (blankIn year) sheet) image text r e ∙ sym (rw (e, onBefore))
+      go Accepted e (NotAccepted r) f = also-refused (termsOf (blankIn year) sheet) image text r e f ∙ sym (rw (e, f, onBefore))
+      go Accepted e Accepted f = goes-on (termsOf (blankIn year) sheet) image text e f ∙ made-as-before e ∙ sym (rw (e, f, onBefore))
 
--- with a blank following, the call answers what it answered before
-pub as-before : (image text : List ℕ) (sheet : Sheet) (out : List ℕ) → embossing blankFollows image text sheet out ≡ embossedBefore image text sheet out
+-- with a blank following, in any year and by any table, the call answers what it would if the end of a text counted as a blank
+pub as-before : (year : ℕ) (image text : List ℕ) (sheet : Sheet) (out : List ℕ)
+    → embossing (blankIn year) image text sheet out ≡ embossedBefore year image text sheet out
 unfolding embossing embossedBefore
-as-before image text sheet out = ap (laid sheet out) (on-as-before image text sheet)
+as-before year image text sheet out = ap (laid sheet out) (on-as-before year image text sheet)
 
--- so by no table at all is 15 the answer to a call with a blank following
-module _ (image text : List ℕ) (sheet : Sheet) (out : List ℕ) where
+-- by a table in the old form it is the same in any two years
+pub as-before-any-year : (year other : ℕ) → year ≤ latestYear → other ≤ latestYear → (image text : List ℕ) (sheet : Sheet) (out : List ℕ)
+    → isDated image ≡ false → embossing (blankIn year) image text sheet out ≡ embossedBefore other image text sheet out
+as-before-any-year year other most most′ image text sheet out old =
+    old-tables-any-year image text sheet out (blankIn year) (blankIn other) old refl most most′ ∙ as-before other image text sheet out
+
+-- by no table at all is 15 the answer to a call with a blank following
+module _ (year : ℕ) (image text : List ℕ) (sheet : Sheet) (out : List ℕ) where
   table-number : {t n p : ℕ} → TableLine image t n p → n < numberFollowing
   table-number (line-1 x) = omega arith
   table-number (line-2 x) = omega arith
@@ -88,7 +97,7 @@ module _ (image text : List ℕ) (sheet : Sheet) (out : List ℕ) where
   table-number (line-3 x) = omega arith
   table-number (line-4 x) = omega arith
 
-  of-15 : {t n p : ℕ} → Line blankFollows image text sheet out t n p → n ≡ numberFollowing
+  of-15 : {t n p : ℕ} → Line (blankIn year) image text sheet out t n p → n ≡ numberFollowing
       → (tableLines < t) × FollowingUnknown (tableOf image .letters) blank
   of-15 (of-table x) e = let w = table-number x in absurd (omega arith)
   of-15 (line-5 x) e = absurd (omega arith)
@@ -97,9 +106,9 @@ module _ (image text : List ℕ) (sheet : Sheet) (out : List ℕ) where
   of-15 (line-15 x) e = (omega arith, x)
   of-15 (line-8 x) e = absurd (omega arith)
 
-  pub blank-answer-never-15 : number (embossing blankFollows image text sheet out .answer) ≡ numberFollowing → ⊥
+  pub blank-answer-never-15 : number (embossing (blankIn year) image text sheet out .answer) ≡ numberFollowing → ⊥
   blank-answer-never-15 e =
-      let f = refused-exactly-when blankFollows image text sheet out numberFollowing (place (embossing blankFollows image text sheet out .answer)) (omega arith) .0 (e, refl) in
+      let f = refused-exactly-when (blankIn year) image text sheet out numberFollowing (place (embossing (blankIn year) image text sheet out .answer)) (omega arith) .0 (e, refl) in
       let line = of-15 (f .line) refl in
       blank-never-15 image
       (accepted-exactly-when image .1 (λ t n p x. f .none-before t n p (let w = within-table image x in omega (arith, line .0)) (of-table x)))
@@ -125,10 +134,10 @@ module _ (image text : List ℕ) (sheet : Sheet) (out : List ℕ) (u v : Setting
       go (same-result x) = ap (laid sheet out) x
 
   -- symbols of one class
-  pub same-class-same-answer : classOf (tableOf image .letters) (u .following) ≡ classOf (tableOf image .letters) (v .following) → Neither15
+  pub same-class-same-answer : u .year ≡ v .year → classOf (tableOf image .letters) (u .following) ≡ classOf (tableOf image .letters) (v .following) → Neither15
       → embossing u image text sheet out ≡ embossing v image text sheet out
-  same-class-same-answer e = same-answer (same-class-same-pieces (tableOf image) u v e text)
+  same-class-same-answer year e = same-answer (same-class-same-pieces (tableOf image) u v year e text)
 
   -- where no entry has a right context, no following symbol changes an answer other than 15
-  pub no-context-same-answer : NoContexts (tableOf image) → Neither15 → embossing u image text sheet out ≡ embossing v image text sheet out
-  no-context-same-answer h = same-answer (no-context-same-pieces (tableOf image) u v h text)
+  pub no-context-same-answer : u .year ≡ v .year → NoContexts (tableOf image) → Neither15 → embossing u image text sheet out ≡ embossing v image text sheet out
+  no-context-same-answer year h = same-answer (no-context-same-pieces (tableOf image) u v year h text)

@@ -3,5 +3,6 @@ pub mod Promises
 pub mod Relied
 pub mod WholeCall
 pub mod Demands
+pub mod Years
 pub mod Following
 pub mod Twelve

@@ -7,7 +7,7 @@ use mathlib.Core.Bool.{Bool, true, false}
 use mathlib.Core.Path.{_≡_, refl, sym, _∙_, ap}
 use native.Mathlib.Omega.{arith}
 use lib.ListN.{length, replicate}
-use Rattle.table.specs.Example.{image, table, ascii}
+use Rattle.table.specs.Example.{image, datedImage, table, ascii}
 use Rattle.translation.specs.Pieces.{piecesOf, signsOf}
 use Rattle.table.specs.Numbers.{blank}
 use Rattle.translation.specs.declared.Setting.{Setting}
@@ -40,10 +40,10 @@ shown c = let a = c .answer in (number a, place a, written a, pieces a, lines a,
 
 -- what follows the text
 follows : ℕ → Setting
-follows c = record { following = c }
+follows c = record { following = c; year = 65535 }
 
 abbrev blankFollows : Setting
-blankFollows = record { following = blank }
+blankFollows = record { following = blank; year = 65535 }
 
 -- W 8 and P 2
 abbrev small : Sheet
@@ -157,6 +157,27 @@ following-refused-in-order :
     ≡ 7 ∷ 15 ∷ 8 ∷ 15 ∷ 15 ∷ 15 ∷ []
 unfolding computing shown lent follows
 following-refused-in-order = refl
+
+-- ---- Request 6, dates on entries: COME by the table in which COM is in force from 1932 to 2015, before, in the first and in the last of these years, and
+-- after: four letters, COM and a letter, the same, four letters
+
+in-year : List ℕ → ℕ → Shown
+in-year table y = shown (embossing (record { following = blank; year = y }) table (ascii "COME") small (lent room))
+
+contracted : Shown
+contracted = (0, 0, 4, 2, 1, 1, 36 ∷ 17 ∷ 64 ∷ 65 ∷ [] ++ lent 20)
+
+spelled : Shown
+spelled = (0, 0, 6, 4, 1, 1, 9 ∷ 21 ∷ 13 ∷ 17 ∷ 64 ∷ 65 ∷ [] ++ lent 18)
+
+come-in-years : map (in-year datedImage) (1931 ∷ 1932 ∷ 2015 ∷ 2016 ∷ []) ≡ spelled ∷ contracted ∷ contracted ∷ spelled ∷ []
+unfolding computing shown lent in-year contracted spelled
+come-in-years = refl
+
+-- the paper's table, which has no years, is always in force: in the first year, the last, and between
+come-always : map (in-year image) (0 ∷ 1931 ∷ 65535 ∷ []) ≡ contracted ∷ contracted ∷ contracted ∷ []
+unfolding computing shown lent in-year contracted
+come-always = refl
 
 -- ---- A permitted layout that isn't ours: `AAAA AAA` at W 8 on two lines
 

@@ -1,5 +1,6 @@
--- The call as document 01 alone has it: past the end of text stands the blank, and nobody asks whether it is in the alphabet. proofs/Following.antt shows that
--- with a blank following the call answers so still.
+-- The call as it was before the caller said what follows: past the end of text stands the blank, and nobody asks whether it is in the alphabet.
+-- proofs/Following.antt shows that with a blank following the call answers so still, whatever the table and the year; and where the table is in the form that
+-- document 01 has, as it did before there were years.
 use Prim.Native.Nat.{ℕ}
 use mathlib.Core.Bool.{true, false}
 use mathlib.Core.List.{List}
@@ -20,24 +21,25 @@ use Rattle.pages.specs.Volume.{sheetVerdict}
 use Rattle.pages.specs.declared.Sheet.{Sheet}
 use Rattle.layout.specs.Emboss.{Outcome, laid}
 
-abbrev pub blankFollows : Setting
-blankFollows = record { following = blank }
+-- a blank follows
+abbrev pub blankIn : ℕ → Setting
+blankIn year = record { following = blank; year = year }
 
 -- 6: text over 16,384 bytes. 7: character without alphabet record
-unfoldable pub madeBefore : Table → List ℕ → Result
-madeBefore table text =
+unfoldable pub madeBefore : ℕ → Table → List ℕ → Result
+madeBefore year table text =
     elim (leb (length text) mostText) [
-      | true ↦ elim (firstUnknown (table .letters) text) [ none ↦ made (piecesOf table blankFollows text) | some at ↦ refused (Unknown at) ]
+      | true ↦ elim (firstUnknown (table .letters) text) [ none ↦ made (piecesOf table (blankIn year) text) | some at ↦ refused (Unknown at) ]
       | false ↦ refused LongText
     ]
 
 -- the refusals of a table, then W and P
-unfoldable pub onBefore : Verdict → List ℕ → List ℕ → Result
-onBefore also image text =
+unfoldable pub onBefore : ℕ → Verdict → List ℕ → List ℕ → Result
+onBefore year also image text =
     elim (verdictOf image) [
-      | Accepted ↦ elim also [ Accepted ↦ madeBefore (tableOf image) text | NotAccepted r ↦ refused r ]
+      | Accepted ↦ elim also [ Accepted ↦ madeBefore year (tableOf image) text | NotAccepted r ↦ refused r ]
       | NotAccepted r ↦ refused r
     ]
 
-unfoldable pub embossedBefore : List ℕ → List ℕ → Sheet → List ℕ → Outcome
-embossedBefore image text sheet out = laid sheet out (onBefore (sheetVerdict sheet) image text)
+unfoldable pub embossedBefore : ℕ → List ℕ → List ℕ → Sheet → List ℕ → Outcome
+embossedBefore year image text sheet out = laid sheet out (onBefore year (sheetVerdict sheet) image text)

@@ -1,5 +1,5 @@
--- 'What comes back': the answer with its six values, and the whole call, from what follows the text, the image, the text, the sheet and the output as
--- lent to the answer and the output afterwards.
+-- 'What comes back': the answer with its six values, and the whole call, from what follows the text, the year, the image, the text, the sheet and the
+-- output as lent to the answer and the output afterwards.
 use Prim.Native.Nat.{ℕ}
 use mathlib.Core.Bool.{true, false}
 use mathlib.Core.List.{List, _++_}

@@ -12,7 +12,7 @@ unfoldable pub sixValues : Answer → List ℕ
 sixValues a = number a ∷ place a ∷ written a ∷ pieces a ∷ lines a ∷ pages a ∷ []
 
 -- `tlopahuexi_emboss`: an answer that `emboss` promises, with its output, and that answer's six values
-pub record Pressed (image text : List ℕ) (following W P : ℕ) (before after values : List ℕ) : Type 0 where
+pub record Pressed (image text : List ℕ) (following year W P : ℕ) (before after values : List ℕ) : Type 0 where
   pub answer : Answer
-  pub embosses : Embossed (record { following = following }) image text (record { width = W; length = P }) before answer after
+  pub embosses : Embossed (record { following = following; year = year }) image text (record { width = W; length = P }) before answer after
   pub tells : values ≡ sixValues answer

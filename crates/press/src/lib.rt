@@ -7,25 +7,28 @@ use layout::emboss;
 use pages::Sheet;
 use translation::Setting;
 
-// Embosses a text that is followed by the symbol `following`, which is only looked at, and stores
-// the answer's six values: number, place, bytes written, pieces, lines, pages. A refused call
-// changes no byte of `out`, and a done one none beyond the bytes written. It needs 81,000 bytes of
-// stack, whatever it is asked (bench/stack): a thread that calls it wants 96 KiB at least.
+// Embosses a text that is followed by the symbol `following`, which is only looked at, by the
+// entries in force in `year`, and stores the answer's six values: number, place, bytes written,
+// pieces, lines, pages. A refused call changes no byte of `out`, and a done one none beyond the
+// bytes written. It needs 83,000 bytes of stack, whatever it is asked (bench/stack): a thread that
+// calls it wants 96 KiB at least.
 #[no_mangle]
 pub extern "C" fn tlopahuexi_emboss(
     image: &[u8],
     text: &[u8],
     following: u8,
+    year: u16,
     width: usize,
     length: usize,
     out: &mut [u8],
     answer: &mut [u64; 6],
 )
-    ensures { λ _. ⌜ Pressed (now (image .entry)) (now (text .entry)) following width length (now (out .entry)) (now (out .exit)) (now (answer .exit)) ⌝ }
+    ensures { λ _. ⌜ Pressed (now (image .entry)) (now (text .entry)) following year width length (now (out .entry)) (now (out .exit)) (now (answer .exit)) ⌝ }
 {
     let a = emboss(
         Setting {
             following: following,
+            year: year,
         },
         image,
         text,

@@ -1,19 +1,19 @@
--- The table of document 01's examples: its length, its distances, that it is accepted, and that its image is read as its lists. What one wrong byte
--- of it does, and the grouping of document 01's reading. All by computing.
+-- The table of document 01's examples, in the old form and with years: its length, its distances, that it is accepted, and that its image is
+-- read as its lists. What one wrong byte of it does, and the grouping of document 01's reading. All by computing.
 use Prim.Native.Nat.{ℕ, _+_}
 use mathlib.Core.Path.{_≡_, refl}
 use mathlib.Core.List.{List, [], _∷_, map}
 use mathlib.Core.Option.{none, some}
-use lib.ListN.{length, set, take}
+use lib.ListN.{length, set, take, replicate}
 use lib.Seq.{sets}
 use Rattle.table.specs.Cells.{cellOf}
 use Rattle.table.specs.inside.Computing.{computing}
 use Rattle.table.specs.Sections.{distance}
-use Rattle.table.specs.Table.{tableOf}
+use Rattle.table.specs.Table.{Entry, tableOf}
 use Rattle.table.specs.Grouping.{firstBreak}
 use Rattle.table.specs.Verdict.{verdictOf}
 use Rattle.table.specs.Refusals.{verdictNumber, verdictPlace}
-use Rattle.table.specs.Example.{image, table, ascii}
+use Rattle.table.specs.Example.{image, table, datedImage, datedTable, ascii}
 use Rattle.table.specs.declared.Verdict.the-variants.{Accepted}
 
 -- all six dots, none, and the letters A, C and E of the table
@@ -36,6 +36,31 @@ image-accepted = refl
 pub image-decoded : tableOf image ≡ table
 unfolding computing
 image-decoded = refl
+
+-- ---- The same table with years
+
+pub dated-length : length datedImage ≡ 246
+dated-length = refl
+
+pub dated-distances : map (distance datedImage) (0 ∷ 1 ∷ 2 ∷ 3 ∷ 4 ∷ []) ≡ 232 ∷ 175 ∷ 21 ∷ 17 ∷ 12 ∷ []
+unfolding computing
+dated-distances = refl
+
+pub dated-accepted : verdictOf datedImage ≡ Accepted
+unfolding computing
+dated-accepted = refl
+
+pub dated-decoded : tableOf datedImage ≡ datedTable
+unfolding computing
+dated-decoded = refl
+
+-- the years of each entry: in the old form always
+yearsRead : List ℕ → List (ℕ × ℕ)
+yearsRead i = map (λ (e : Entry). (e .first, e .last)) (tableOf i .entries)
+
+years-read : map yearsRead (image ∷ datedImage ∷ []) ≡ replicate 7 (0, 65535) ∷ ((1932, 2015) ∷ replicate 6 (0, 65535)) ∷ []
+unfolding computing yearsRead
+years-read = refl
 
 -- ---- The verdicts on images with one byte put wrong: its offset, the byte, the number, the place
 
@@ -78,7 +103,8 @@ trailer = 204
 
 damages : List Damage
 damages =
-    wrong (trailer + 13) 52 1 0  -- the last mark
+    wrong (trailer + 13) 52 1 0  -- the form with years: 126 bytes aren't whole records of 22
+    ∷ wrong (trailer + 13) 53 1 0  -- the last mark
     ∷ wrong (trailer + 10) 0 1 0  -- no class
     ∷ wrong (trailer + 10) 41 1 0  -- too many classes
     ∷ wrong (trailer + 11) 16 1 0  -- too many variables
@@ -125,11 +151,14 @@ damages =
 told : List ℕ → ℕ × ℕ
 told i = let v = verdictOf i in (verdictNumber v, verdictPlace v)
 
-judged : Damage → ℕ × ℕ
-judged d = told (set image (d .offset) (d .byte))
+judged : List ℕ → Damage → ℕ × ℕ
+judged i d = told (set i (d .offset) (d .byte))
 
-damages-judged : map judged damages ≡ map (λ (d : Damage). (d .number, d .place)) damages
-unfolding computing damages judged told wrong
+answers : List Damage → List (ℕ × ℕ)
+answers = map (λ (d : Damage). (d .number, d .place))
+
+damages-judged : map (judged image) damages ≡ answers damages
+unfolding computing damages judged answers told wrong
 damages-judged = refl
 
 -- of two wrong bytes the first in image order is named, whatever their sections
@@ -152,6 +181,52 @@ ten c = sets image entryCOM (10 ∷ 67 ∷ 79 ∷ 77 ∷ 67 ∷ 79 ∷ 77 ∷ 67
 ten-characters-judged : map told (map ten (0 ∷ 1 ∷ [])) ≡ (0, 0) ∷ (11, entryCOM + 11) ∷ []
 unfolding computing ten told
 ten-characters-judged = refl
+
+-- ---- The verdicts on the image with years. A record has 22 bytes: the offsets of the entries COM, FUL, $L and $N, and of the trailer
+
+abbrev datedCOM : ℕ
+datedCOM = 57
+
+abbrev datedFUL : ℕ
+datedFUL = 79
+
+abbrev datedL : ℕ
+datedL = 145
+
+abbrev datedN : ℕ
+datedN = 189
+
+abbrev datedTrailer : ℕ
+datedTrailer = 232
+
+datedDamages : List Damage
+datedDamages =
+    wrong (datedTrailer + 13) 51 1 0  -- the old form: 154 bytes aren't whole records of 18
+    ∷ wrong (datedTrailer + 13) 53 1 0  -- the last mark
+    ∷ wrong (datedCOM + 18) 224 11 (datedCOM + 18)  -- 2016 to 2015
+    ∷ wrong (datedCOM + 18) 223 0 0  -- 2015 alone
+    ∷ wrong (datedCOM + 19) 8 11 (datedCOM + 18)  -- 2188 to 2015
+    ∷ wrong (datedCOM + 20) 139 11 (datedCOM + 18)  -- 1932 to 1931
+    ∷ wrong (datedCOM + 20) 140 0 0  -- 1932 alone
+    ∷ wrong (datedCOM + 21) 6 11 (datedCOM + 18)  -- 1932 to 1759
+    ∷ wrong (datedFUL + 1) 88 11 (datedFUL + 1)  -- a character outside the alphabet
+    ∷ wrong (datedN + 13) 3 11 (datedN + 13)  -- a shift over the length
+    ∷ wrong (datedN + 17) 7 11 (datedN + 17)  -- a sign after a 99
+    ∷ wrong (datedL + 1) 67 4 datedL  -- CL after $P, where COM stands first
+    ∷ []
+
+dated-damages-judged : map (judged datedImage) datedDamages ≡ answers datedDamages
+unfolding computing datedDamages judged answers told wrong
+dated-damages-judged = refl
+
+-- the years of a record, low byte first: 255 to 256, 256 to 255, of COM; 1 to 0 of $N. And of two wrong bytes the first: a sign before the year, a year
+-- before the next record
+dated-years-judged :
+    map told
+    (sets datedImage (datedCOM + 18) (255 ∷ 0 ∷ 0 ∷ 1 ∷ []) ∷ sets datedImage (datedCOM + 18) (0 ∷ 1 ∷ 255 ∷ 0 ∷ []) ∷ sets datedImage (datedN + 18) (1 ∷ 0 ∷ 0 ∷ 0 ∷ []) ∷ set (set datedImage (datedCOM + 19) 8) (datedCOM + 17) 7 ∷ set (set datedImage (datedCOM + 19) 8) datedFUL 0 ∷ [])
+    ≡ (0, 0) ∷ (11, datedCOM + 18) ∷ (11, datedN + 18) ∷ (11, datedCOM + 17) ∷ (11, datedCOM + 18) ∷ []
+unfolding computing told
+dated-years-judged = refl
 
 -- ---- Grouping: padding is never compared
 

@@ -3,7 +3,7 @@
 use Prim.Native.Nat.{ℕ, zero, suc, _+_, _-_, _*_, _/_, _≤_, _<_}
 use mathlib.Core.Bool.{Bool, true, false, _&&_}
 use mathlib.Core.List.{List}
-use mathlib.Core.Logic.{_↔_, Iff·trans}
+use mathlib.Core.Logic.{_↔_, _⊎_, Iff·trans}
 use mathlib.Core.Path.{_≡_, refl, sym, _∙_, ap}
 use native.Mathlib.Nat.{div-eq-of-eq-mul-right}
 use native.Mathlib.Omega.{arith}
@@ -16,13 +16,14 @@ use Rattle.table.specs.Numbers.{
   secondMarkByte,
   firstMark,
   secondMark,
+  datedMark,
   leastClasses,
   mostClasses,
   mostVariables,
   leastLetters,
   mostLetters,
   letterSize,
-  entrySize,
+  datedEntrySize,
   leastEntries,
   mostEntries,
   contextSize,
@@ -37,6 +38,8 @@ use Rattle.table.specs.Sections.{
   distance,
   classesIn,
   variablesIn,
+  isDated,
+  entrySizeIn,
   sectionAt,
   lastSection,
   sectionsIn,
@@ -51,7 +54,8 @@ use Rattle.table.specs.Sections.{
 use Rattle.table.specs.Refusals.{Between, WholeRecords, FrameRight}
 use Rattle.table.specs.declared.Section.{Section}
 use Rattle.table.specs.declared.Sections.{Sections}
-use Rattle.table.proofs.Tests.{Tells, tells-and, tells-and-then, tells-le, tells-eq, tells-within}
+use Rattle.table.proofs.Tests.{Tells, tells-and, tells-and-then, tells-or, tells-le, tells-eq, tells-within}
+use Rattle.table.proofs.Forms.{tells-dated, undated-size, form-told, form-marked, form-size, entry-long}
 
 tells-whole : (s : Section) (bytes least most : ℕ) → 0 < s .size → s .records ≡ bytes / s .size
     → Tells (wholeRecords s bytes least most) (WholeRecords (s .size) bytes least most)
@@ -67,12 +71,14 @@ tells-whole s bytes least most filled counted =
 module _ (image : List ℕ) where
   pub tells-trailer :
       Tells (trailerRight image)
-      ((((byteAt image (trailerAt image + firstMarkByte) ≡ firstMark) × (byteAt image (trailerAt image + secondMarkByte) ≡ secondMark))
+      ((((byteAt image (trailerAt image + firstMarkByte) ≡ firstMark)
+      × ((byteAt image (trailerAt image + secondMarkByte) ≡ secondMark) ⊎ (byteAt image (trailerAt image + secondMarkByte) ≡ datedMark)))
       × Between leastClasses mostClasses (classesIn image))
       × (variablesIn image ≤ mostVariables))
   unfolding trailerRight
   tells-trailer =
-      tells-and (tells-and (tells-and (tells-eq _ _) (tells-eq _ _)) (tells-within _ _ (classesIn image))) (tells-le (variablesIn image) _)
+      tells-and (tells-and (tells-and (tells-eq _ _) (tells-or (tells-eq _ _) (tells-dated image))) (tells-within _ _ (classesIn image)))
+      (tells-le (variablesIn image) _)
 
   abbrev pub NeverRise : Type 0
   NeverRise = (k : ℕ) → k < 4 → distance image (k + 1) ≤ distance image k
@@ -100,12 +106,13 @@ module _ (image : List ℕ) where
   tells-lengths : 0 < classesIn image
       → Tells (lengthsRight image (sectionsIn image))
       ((((WholeRecords letterSize (distance image 0 - distance image 1) leastLetters mostLetters
-      × WholeRecords entrySize (distance image 1 - distance image 2) leastEntries mostEntries)
+      × WholeRecords (entrySizeIn image) (distance image 1 - distance image 2) leastEntries mostEntries)
       × WholeRecords contextSize (distance image 2 - distance image 3) leastContexts mostContexts)
       × WholeRecords (classesIn image) (distance image 3 - distance image 4) (variablesIn image) (variablesIn image))
       × WholeRecords (classesIn image + variablesIn image) (distance image 4) leastColumns mostColumns)
   unfolding lengthsRight sectionsIn sectionAt lastSection
   tells-lengths filled =
+      let long = entry-long image in
       tells-and
       (tells-and
       (tells-and
@@ -125,7 +132,8 @@ module _ (image : List ℕ) where
             record {
               trailer-there = h .0 .0 .0;
               first-mark = h .0 .0 .1 .0 .0 .0;
-              second-mark = h .0 .0 .1 .0 .0 .1;
+              entry-size = entrySizeIn image;
+              form = form-told image (h .0 .0 .1 .0 .0 .1);
               classes-right = h .0 .0 .1 .0 .1;
               variables-right = h .0 .0 .1 .1;
               first-distance = h .0 .1 .0;
@@ -137,8 +145,8 @@ module _ (image : List ℕ) where
               decisions-whole = h .1 .1;
             },
         λ f. (
-          ((f .trailer-there, (((f .first-mark, f .second-mark), f .classes-right), f .variables-right)), (f .first-distance, f .never-rise)),
-          ((((f .alphabet-whole, f .contractions-whole), f .contexts-whole), f .transitions-whole), f .decisions-whole),
+          ((f .trailer-there, (((f .first-mark, form-marked image (f .form)), f .classes-right), f .variables-right)), (f .first-distance, f .never-rise)),
+          ((((f .alphabet-whole, rw (form-size image (f .form)) at (f .contractions-whole)), f .contexts-whole), f .transitions-whole), f .decisions-whole),
         ),
       )
 
@@ -178,6 +186,18 @@ module _ (image : List ℕ) where
       go : (b : Bool) → frameRight image ≡ b → frameRight image ≡ true
       go true e = e
       go false e = absurd (some-class (ap (λ (s : Sections). s .classes) (sections-unframed e)))
+
+  -- the contraction records of an image in the old form have no years, and there are none where the frame is wrong
+  pub undated-section : isDated image ≡ false → sectionsOf image .contractions .size ≡ datedEntrySize → ⊥
+  unfolding sectionsIn sectionAt
+  undated-section old dated = go (frameRight image) refl
+    where
+      size-of : {a b : Sections} → a ≡ b → a .contractions .size ≡ b .contractions .size
+      size-of e = ap (λ (s : Sections). s .contractions .size) e
+
+      go : (b : Bool) → frameRight image ≡ b → ⊥
+      go true e = let size = size-of (sections-framed e) in let short = undated-size image old in omega arith
+      go false e = let size = size-of (sections-unframed e) in omega arith
 
   -- the trailer's two numbers, where the frame is right
   pub framed-classes : frameRight image ≡ true → Between leastClasses mostClasses (sectionsOf image .classes)

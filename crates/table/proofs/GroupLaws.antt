@@ -156,7 +156,7 @@ module _ (image : List ℕ) (s : Sections) where
       ∙ ap (λ (e : Entry). e .string) (getD-listOf (entryAt image s) records k nothing l)
     where
       nothing : Entry
-      nothing = record { string = []; context = 0; class = 0; shift = 0; signs = [] }
+      nothing = record { string = []; context = 0; class = 0; shift = 0; signs = []; first = 0; last = 0 }
 
   pub agreed-at : (q r : ℕ) {a b : List ℕ} → q < records → r < records → a ≡ entryAt image s q .string → b ≡ entryAt image s r .string
       → agreement a b ≡ agreed (strings (tableIn image s)) q r

@@ -2,6 +2,7 @@ pub mod Search
 pub mod Lists
 pub mod Wrote
 pub mod Tests
+pub mod Forms
 pub mod Frame
 pub mod RightRecords
 pub mod RuleTests
@@ -21,4 +22,5 @@ pub mod Distances
 pub mod Laid
 pub mod Reading
 pub mod Sound
+pub mod Largest
 pub mod Walks

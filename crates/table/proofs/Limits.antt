@@ -11,11 +11,12 @@ use Rattle.table.specs.Answers.{refusalNumber, refusalPlace}
 use Rattle.table.specs.Sections.{frameRight}
 use Rattle.table.specs.Verdict.{verdictOf}
 use Rattle.table.specs.Refusals.{verdictNumber, verdictPlace}
+use Rattle.table.specs.Example.{always}
 use Rattle.table.specs.inside.Computing.{computing}
 use Rattle.table.specs.declared.Refusal.{Refusal}
-use Rattle.table.specs.declared.Refusal.the-variants.{Frame, Alphabet, Contraction, Context, Transition, Decision, NoBlank, Grouping, Size, LongText, Unknown, Following, Room}
+use Rattle.table.specs.declared.Refusal.the-variants.{Frame, Alphabet, Contraction, Context, Transition, Decision, NoBlank, Grouping, Size, LongText, Unknown, Following, Dated, Room}
 
--- ---- An image from its parts. The distances are those of the parts' lengths
+-- ---- An image from its parts, in the old form. The distances are those of the parts' lengths
 
 record Parts : Type 0 where
   letters : List ℕ
@@ -49,6 +50,10 @@ imageOf p =
     ++ twoBytes d4
     ++ p .classes ∷ p .variables ∷ 66 ∷ 51 ∷ []
 
+-- with another last byte: 52 is that of the form with years
+marked : ℕ → List ℕ → List ℕ
+marked mark image = set image (length image - 1) mark
+
 -- ---- Tables that are right but for the numbers that they are given
 
 -- letters of class 1 and sign 0, by their symbols from `c` on
@@ -56,20 +61,24 @@ lettersFrom : ℕ → ℕ → List ℕ
 lettersFrom c zero = []
 lettersFrom c (suc n) = c ∷ 1 ∷ 0 ∷ lettersFrom (suc c) n
 
--- so many letters from the blank on, contexts, classes, variables and columns. Every class in a context is 1; every transition, decision and condition
--- is a hyphen
-sized : ℕ → ℕ → ℕ → ℕ → ℕ → List ℕ
-sized letters contexts classes variables columns =
+-- these entries, and so many letters from the blank on, contexts, classes, variables and columns. Every class in a context is 1; every transition, decision
+-- and condition is a hyphen
+full : List ℕ → ℕ → ℕ → ℕ → ℕ → ℕ → List ℕ
+full entries letters contexts classes variables columns =
     imageOf
     (record {
       letters = lettersFrom 32 letters;
-      entries = [];
+      entries = entries;
       contexts = replicate (4 * contexts) 1;
       transitions = replicate (variables * classes) 45;
       decisions = replicate (columns * (classes + variables)) 45;
       classes = classes;
       variables = variables;
     })
+
+-- no entry
+sized : ℕ → ℕ → ℕ → ℕ → ℕ → List ℕ
+sized = full []
 
 -- one class, the blank, and a second letter with this symbol and this sign
 second : ℕ → ℕ → List ℕ
@@ -85,16 +94,22 @@ second symbol sign =
       variables = 0;
     })
 
--- entries of one blank: length, string, context, class, shift, signs
-entriesOf : ℕ → List ℕ
-entriesOf zero = []
-entriesOf (suc n) = 1 ∷ 32 ∷ 0 ∷ 0 ∷ 0 ∷ 0 ∷ 0 ∷ 0 ∷ 0 ∷ 0 ∷ 0 ∷ 0 ∷ 1 ∷ 1 ∷ 0 ∷ 0 ∷ 0 ∷ 0 ∷ entriesOf n
+-- entries of one blank: length, string, context, class, shift, signs, and these years
+entriesOf : List ℕ → ℕ → List ℕ
+entriesOf years zero = []
+entriesOf years (suc n) =
+    (1 ∷ 32 ∷ 0 ∷ 0 ∷ 0 ∷ 0 ∷ 0 ∷ 0 ∷ 0 ∷ 0 ∷ 0 ∷ 0 ∷ 1 ∷ 1 ∷ 0 ∷ 0 ∷ 0 ∷ 0 ∷ years) ++ entriesOf years n
 
--- one class, the blank, and so many entries
+-- one class, the blank, and so many entries: without years, and with these
 entered : ℕ → List ℕ
-entered n =
-    imageOf
-    (record { letters = 32 ∷ 1 ∷ 0 ∷ []; entries = entriesOf n; contexts = []; transitions = []; decisions = []; classes = 1; variables = 0 })
+entered n = full (entriesOf [] n) 1 0 1 0 0
+
+dated : List ℕ → ℕ → List ℕ
+dated years n = marked 52 (full (entriesOf years n) 1 0 1 0 0)
+
+-- as much of everything as there may be
+largest : List ℕ
+largest = marked 52 (full (entriesOf always 1199) 63 5 40 15 20)
 
 -- the two bytes of distance `k` exchanged
 exchanged : ℕ → List ℕ → List ℕ
@@ -150,7 +165,19 @@ cases =
     ∷ case (exchanged 3 long) 1 0
     ∷ case (exchanged 4 long) 1 0
     -- the entries of `entered` are right
-    ∷ case (entered 2) 0 0 ∷ []
+    ∷ case (entered 2) 0 0
+    -- the last byte 51 or 52
+    ∷ case (marked 50 (sized 1 0 1 0 0)) 1 0
+    ∷ case (marked 52 (sized 1 0 1 0 0)) 0 0
+    ∷ case (marked 53 (sized 1 0 1 0 0)) 1 0
+    -- records of 18 bytes with the one, of 22 with the other
+    ∷ case (marked 52 (entered 2)) 1 0
+    ∷ case (dated always 2) 0 0
+    ∷ case (marked 51 (dated always 2)) 1 0
+    -- years 0 to 65,535, the first not after the last: bytes 18 and 20 of the record, which lies at 3
+    ∷ case (dated (255 ∷ 255 ∷ 255 ∷ 255 ∷ []) 2) 0 0
+    ∷ case (dated (255 ∷ 255 ∷ 254 ∷ 255 ∷ []) 2) 11 21
+    ∷ case (dated (1 ∷ 0 ∷ 0 ∷ 0 ∷ []) 2) 11 21 ∷ []
 
 judged : Case → ℕ × ℕ
 judged c = let v = verdictOf (c .image) in (verdictNumber v, verdictPlace v)
@@ -160,7 +187,7 @@ judged c = let v = verdictOf (c .image) in (verdictNumber v, verdictPlace v)
 -- each answer that refuses, in the order in which they are met; one that has a place of its own is given 3
 refusals : List Refusal
 refusals =
-    Frame ∷ Alphabet 3 ∷ Contraction 3 ∷ Context 3 ∷ Transition 3 ∷ Decision 3 ∷ NoBlank ∷ Grouping 3 ∷ Size ∷ LongText ∷ Unknown 3 ∷ Following ∷ Room 3 ∷ []
+    Frame ∷ Alphabet 3 ∷ Contraction 3 ∷ Context 3 ∷ Transition 3 ∷ Decision 3 ∷ NoBlank ∷ Grouping 3 ∷ Size ∷ LongText ∷ Unknown 3 ∷ Following ∷ Dated 3 ∷ Room 3 ∷ []
 
 record LimitsAsWritten : Type 0 where
   -- a cell is a number 0 to 63
@@ -168,10 +195,22 @@ record LimitsAsWritten : Type 0 where
   image-limits : map judged cases ≡ map (λ (c : Case). (c .number, c .place)) cases
   -- entries 0 to 1,199: by the frame, as the verdict on so many would be long to compute
   entry-limit : map (λ n. frameRight (entered n)) (1199 ∷ 1200 ∷ []) ≡ true ∷ false ∷ []
+  -- the largest image, in bytes
+  largest-right : frameRight largest ≡ true
+  largest-length : length largest ≡ 28301
   -- the columns 'No.' and 'Place'
-  numbers : map refusalNumber refusals ≡ 1 ∷ 2 ∷ 11 ∷ 12 ∷ 13 ∷ 14 ∷ 3 ∷ 4 ∷ 5 ∷ 6 ∷ 7 ∷ 15 ∷ 8 ∷ []
-  places : map refusalPlace refusals ≡ 0 ∷ 3 ∷ 3 ∷ 3 ∷ 3 ∷ 3 ∷ 0 ∷ 3 ∷ 0 ∷ 16384 ∷ 3 ∷ 0 ∷ 3 ∷ []
+  numbers : map refusalNumber refusals ≡ 1 ∷ 2 ∷ 11 ∷ 12 ∷ 13 ∷ 14 ∷ 3 ∷ 4 ∷ 5 ∷ 6 ∷ 7 ∷ 15 ∷ 17 ∷ 8 ∷ []
+  places : map refusalPlace refusals ≡ 0 ∷ 3 ∷ 3 ∷ 3 ∷ 3 ∷ 3 ∷ 0 ∷ 3 ∷ 0 ∷ 16384 ∷ 3 ∷ 0 ∷ 3 ∷ 3 ∷ []
 
 limits-as-written : LimitsAsWritten
-unfolding computing twoBytes imageOf lettersFrom sized second entriesOf entered exchanged long case cases judged refusals
-limits-as-written = record { cells = refl; image-limits = refl; entry-limit = refl; numbers = refl; places = refl }
+unfolding computing twoBytes imageOf marked lettersFrom full sized second entriesOf entered dated largest exchanged long case cases judged refusals
+limits-as-written =
+    record {
+      cells = refl;
+      image-limits = refl;
+      entry-limit = refl;
+      largest-right = refl;
+      largest-length = refl;
+      numbers = refl;
+      places = refl;
+    }

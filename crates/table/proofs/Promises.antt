@@ -3,9 +3,10 @@ use Prim.Native.Nat.{ℕ}
 use mathlib.Core.List.{List}
 use mathlib.Core.Path.{_≡_, sym, _∙_}
 use denote.Ref.{RefT}
-use Rattle.table.specs.Promises.{Located, RecordByte, RecordPart, Checked, Reads, ReaderVerdict, RefusalNumber, RefusalPlace}
+use Rattle.table.specs.Promises.{Located, RecordByte, RecordPart, YearsOf, Checked, Reads, ReaderVerdict, RefusalNumber, RefusalPlace}
 use Rattle.table.specs.declared.Section.{Section}
 use Rattle.table.specs.declared.Sections.{Sections}
+use Rattle.table.specs.declared.Years.{Years}
 use Rattle.table.specs.declared.Refusal.{Refusal}
 use Rattle.table.specs.declared.Verdict.{Verdict}
 use Rattle.table.specs.declared.Reader.{Reader}
@@ -18,6 +19,9 @@ record-byte-determined p q = p .is ∙ sym (q .is)
 
 pub record-part-determined : {image : List ℕ} {s : Section} {k j n : ℕ} {a b : List ℕ} → RecordPart image s k j n a → RecordPart image s k j n b → a ≡ b
 record-part-determined p q = p .is ∙ sym (q .is)
+
+pub years-of-determined : {image : List ℕ} {entries : Section} {k : ℕ} {a b : Years} → YearsOf image entries k a → YearsOf image entries k b → a ≡ b
+years-of-determined p q = λ i. record { first = (p .first-is ∙ sym (q .first-is)) i; last = (p .last-is ∙ sym (q .last-is)) i }
 
 pub check-determined : {image : List ℕ} {a b : Verdict} → Checked image a → Checked image b → a ≡ b
 check-determined p q = p .is ∙ sym (q .is)

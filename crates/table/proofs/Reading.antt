@@ -8,7 +8,7 @@ use native.Mathlib.Omega.{arith}
 use lib.ListN.{length, getD, drop, length-drop}
 use lib.Seq.{length-take-le, getD-take, getD-drop}
 use borrow.Author.Tests.{le-leb}
-use Rattle.table.specs.Sections.{byteAt, bytesFrom, sectionsIn, frameRight, sectionsOf, offset, recordByte, recordPart}
+use Rattle.table.specs.Sections.{byteAt, bytesFrom, sectionsIn, frameRight, sectionsOf, offset, recordByte, recordPart, firstYear, lastYear}
 use Rattle.table.specs.Numbers.{
   symbolByte,
   letterClassByte,
@@ -16,6 +16,7 @@ use Rattle.table.specs.Numbers.{
   lengthByte,
   stringByte,
   contextByte,
+  entrySize,
   entryClassByte,
   shiftByte,
   signsByte,
@@ -32,6 +33,7 @@ use Rattle.table.specs.declared.Section.{Section}
 use Rattle.table.specs.declared.Sections.{Sections}
 use Rattle.table.specs.declared.Verdict.the-variants.{Accepted}
 use Rattle.table.proofs.Lists.{length-listOf, getD-listOf, getD-there}
+use Rattle.table.proofs.Forms.{entry-long}
 use Rattle.table.proofs.Frame.{frame-right, sections-framed}
 use Rattle.table.proofs.Laid.{sections-laid}
 use Rattle.table.proofs.Refusals.{accepted}
@@ -118,6 +120,8 @@ entryRead image s k =
       class = byte entryClassByte;
       shift = byte shiftByte;
       signs = partWithin image (s .contractions) k signsByte entrySigns;
+      first = firstYear image (s .contractions) k;
+      last = lastYear image (s .contractions) k;
     }
 
 abbrev pub contextRead : List ℕ → Sections → ℕ → List ℕ
@@ -136,12 +140,16 @@ columnRead image s k =
 -- ---- The parts of records that are read lie within the image, where its sections are laid and its records right
 
 module _ (image : List ℕ) (s : Sections) (laid : SectionsLaid image s) (right : RecordsRight image s) where
+  -- with years or without, all that stands before them
+  pub entry-inside : (k : ℕ) → k < s .contractions .records → offset (s .contractions) k + entrySize ≤ length image
+  entry-inside k l = let lies = laid .contractions-laid .lies k l in let long = entry-long image in omega arith
+
   pub string-inside : (k : ℕ) → k < s .contractions .records → offset (s .contractions) k + stringByte + stringLength image s k ≤ length image
   unfolding sectionNamed
-  string-inside k l = let lies = laid .contractions-laid .lies k l in let short = right contractions k l .length-right in omega arith
+  string-inside k l = let lies = entry-inside k l in let short = right contractions k l .length-right in omega arith
 
   pub signs-inside : (k : ℕ) → k < s .contractions .records → offset (s .contractions) k + signsByte + entrySigns ≤ length image
-  signs-inside k l = let lies = laid .contractions-laid .lies k l in omega arith
+  signs-inside k l = let lies = entry-inside k l in omega arith
 
   pub context-inside : (k : ℕ) → k < s .contexts .records → offset (s .contexts) k + 0 + contextSize ≤ length image
   context-inside k l = let lies = laid .contexts-laid .lies k l in omega arith

@@ -267,29 +267,36 @@ module _ (image : List ℕ) (s : Sections) where
   unfolding entryRule
   entry-right k =
       tells-rule
+      (rule-append
       (rule-append (rule-cons (tells-within _ _ len) (rule-listOf _ mostLength (λ i l. tells-string-byte len i (byte (stringByte + i)))))
       (rule-cons (tells-context-byte len (byte contextByte))
-      (rule-cons (tells-class s _) (rule-cons (tells-within _ len _) (rule-cons (tells-entry-sign _) (rule-listOf _ (entrySigns - 1) steps)))))) (
+      (rule-cons (tells-class s _) (rule-cons (tells-within _ len _) (rule-cons (tells-entry-sign _) (rule-listOf _ (entrySigns - 1) steps))))))
+      (rule-cons (tells-le _ _) rule-nil)) (
         λ h.
-            let l : Between leastLength mostLength len = h .0 .0 in
-            let signs = signs-by-steps sign (entrySigns - 1) .0 (h .1 .1 .1 .1) in
+            let l : Between leastLength mostLength len = h .0 .0 .0 in
+            let after = h .0 .1 in
+            let signs = signs-by-steps sign (entrySigns - 1) .0 (after .1 .1 .1) in
             record {
               length-right = l;
-              characters-known = λ i u. h .0 .1 i (omega arith) .0 u;
-              past-length = λ i u v. h .0 .1 i v .1 (omega arith);
-              context-exists = h .1 .0 .0;
-              ten-alone = h .1 .0 .1;
-              class-right = h .1 .1 .0;
-              shift-right = h .1 .1 .1 .0;
+              characters-known = λ i u. h .0 .0 .1 i (omega arith) .0 u;
+              past-length = λ i u v. h .0 .0 .1 i v .1 (omega arith);
+              context-exists = after .0 .0;
+              ten-alone = after .0 .1;
+              class-right = after .1 .0;
+              shift-right = after .1 .1 .0;
               signs-right = signs .0;
               nothing-after = signs .1;
+              years-right = h .1 .0;
             },
         λ r. (
-          (r .length-right, λ i l. (r .characters-known i, λ d. r .past-length i (omega arith) l)),
           (
-            (r .context-exists, r .ten-alone),
-            (r .class-right, (r .shift-right, signs-by-steps sign (entrySigns - 1) .1 (r .signs-right, r .nothing-after))),
+            (r .length-right, λ i l. (r .characters-known i, λ d. r .past-length i (omega arith) l)),
+            (
+              (r .context-exists, r .ten-alone),
+              (r .class-right, (r .shift-right, signs-by-steps sign (entrySigns - 1) .1 (r .signs-right, r .nothing-after))),
+            ),
           ),
+          (r .years-right, tt),
         ),
       )
     where
@@ -349,6 +356,7 @@ module _ (image : List ℕ) (s : Sections) where
   rule-bytes contractions k l =
       let len : ℕ = entryByte image s k lengthByte in
       bytewise-append
+      (bytewise-append
       (next-byte (tells-within _ _ len)
       (bytewise-from _ (λ i. IsStringByte image s len i (entryByte image s k (stringByte + i))) 0 mostLength
       (λ i.
@@ -358,7 +366,8 @@ module _ (image : List ℕ) (s : Sections) where
       (next-byte (tells-within _ len _)
       (next-byte (tells-entry-sign _)
       (bytewise-from _ (λ i. IsSignAfter (entryByte image s k (signsByte + i)) (entryByte image s k (signsByte + 1 + i))) 0 (entrySigns - 1)
-      (λ i. tells-is-sign-after (entryByte image s k (signsByte + i)) (entryByte image s k (signsByte + 1 + i))))))))
+      (λ i. tells-is-sign-after (entryByte image s k (signsByte + i)) (entryByte image s k (signsByte + 1 + i)))))))))
+      (next-byte (tells-le _ _) no-byte)
   rule-bytes contexts k l = bytewise-from _ _ 0 contextSize (λ j. tells-class s (recordByte image (s .contexts) k j))
   rule-bytes transitions k l = bytewise-from _ _ 0 (s .classes) (λ j. tells-transition (recordByte image (s .transitions) k j))
   rule-bytes decisions k l =

@@ -6,10 +6,11 @@ use mathlib.Core.List.{List, [], _∷_, _++_}
 use mathlib.Core.Option.{Option, none, some}
 use mathlib.Core.Path.{_≡_, refl, sym, _∙_, ap}
 use native.Mathlib.Omega.{arith}
+use lib.Dec.{leb}
 use lib.ListN.{length, getD, take}
-use Rattle.table.specs.Numbers.{symbolByte, letterClassByte, letterSignByte, lengthByte, stringByte, contextByte, entryClassByte, shiftByte, signsByte, entrySigns, leastLength, mostLength, leastShift, contextSize}
+use Rattle.table.specs.Numbers.{symbolByte, letterClassByte, letterSignByte, lengthByte, stringByte, contextByte, entryClassByte, shiftByte, signsByte, firstYearByte, entrySigns, leastLength, mostLength, leastShift, contextSize}
 use Rattle.table.specs.Search.{within, firstFrom, first, listFrom, listOf}
-use Rattle.table.specs.Sections.{recordByte}
+use Rattle.table.specs.Sections.{recordByte, firstYear, lastYear}
 use Rattle.table.specs.Records.{rightClass, rightLetterSign, rightNewSymbol, letterRule, rightEntrySign, rightSignAfter, rightTransition, rightCondition, rightDecision, symbols, rightStringByte, rightContextByte, entryRule, contextRule, transitionRule, decisionRule, wrongByte}
 use Rattle.table.specs.inside.Judging.{signBefore}
 use Rattle.table.specs.declared.Sections.{Sections}
@@ -162,6 +163,9 @@ module _ (image : List ℕ) (s : Sections) (k : ℕ) where
   abbrev pub signsWrong : Option ℕ
   signsWrong = first (λ i. not (rightSignAfter (signBefore image (s .contractions) k i) (byte (signsByte + i)))) entrySigns
 
+  abbrev pub yearsTest : Bool
+  yearsTest = leb (firstYear image (s .contractions) k) (lastYear image (s .contractions) k)
+
   signsRule : List Bool
   signsRule =
       rightEntrySign (byte signsByte) ∷ listOf (λ i. rightSignAfter (byte (signsByte + i)) (byte (signsByte + 1 + i))) (entrySigns - 1)
@@ -171,59 +175,84 @@ module _ (image : List ℕ) (s : Sections) (k : ℕ) where
   unfolding signsRule listFrom rightSignAfter
   signs-by-places = refl
 
-  -- of a contraction record: the length
-  pub length-wrong : lengthTest ≡ false → wrongByte (entryRule image s k) ≡ some 0
-  unfolding entryRule
-  length-wrong e = rw e (wrong-first _)
+  -- the length and the string, what follows the string, and the years
+  upToString : List Bool
+  upToString = lengthTest ∷ listOf (λ i. rightStringByte (symbols image s) (byte lengthByte) i (byte (stringByte + i))) mostLength
 
-  -- the string
-  pub string-wrong : (i : ℕ) → lengthTest ≡ true → stringWrong ≡ some i → wrongByte (entryRule image s k) ≡ some (stringByte + i)
-  unfolding entryRule
-  string-wrong i e f =
-      rw e
-      (wrong-among (true ∷ listOf _ mostLength) _ (stringByte + i)
-      (wrong-past (listOf _ mostLength) ∙ ap (past 1) (wrong-of-places _ mostLength ∙ f)))
-
-  -- what follows the string
   afterString : List Bool
   afterString = contextTest ∷ classTest ∷ shiftTest ∷ signsRule
 
-  after-string : lengthTest ≡ true → stringWrong ≡ none → wrongByte (entryRule image s k) ≡ past contextByte (wrongByte afterString)
-  unfolding entryRule afterString signsRule
-  after-string e f =
-      rw e
-      (wrong-beyond (true ∷ listOf _ mostLength) afterString (wrong-past (listOf _ mostLength) ∙ ap (past 1) (wrong-of-places _ mostLength ∙ f))
-      ∙ ap (λ (n : ℕ). past (suc n) (wrongByte afterString)) (length-listOf _ mostLength))
+  abbrev beforeYears : List Bool
+  beforeYears = upToString ++ afterString
 
-  pub context-byte-wrong : lengthTest ≡ true → stringWrong ≡ none → contextTest ≡ false → wrongByte (entryRule image s k) ≡ some contextByte
+  abbrev years : List Bool
+  years = yearsTest ∷ []
+
+  in-parts : entryRule image s k ≡ beforeYears ++ years
+  unfolding entryRule upToString afterString signsRule
+  in-parts = refl
+
+  before-years : (j : ℕ) → wrongByte beforeYears ≡ some j → wrongByte (entryRule image s k) ≡ some j
+  before-years j e = ap wrongByte in-parts ∙ wrong-among beforeYears years j e
+
+  -- of a contraction record: the length
+  pub length-wrong : lengthTest ≡ false → wrongByte (entryRule image s k) ≡ some 0
+  unfolding upToString
+  length-wrong e = let here : wrongByte beforeYears ≡ some 0 = rw e (wrong-first _) in before-years 0 here
+
+  string-told : lengthTest ≡ true → wrongByte upToString ≡ past stringByte stringWrong
+  unfolding upToString
+  string-told e = rw e (wrong-past (listOf _ mostLength) ∙ ap (past 1) (wrong-of-places _ mostLength))
+
+  -- the string
+  pub string-wrong : (i : ℕ) → lengthTest ≡ true → stringWrong ≡ some i → wrongByte (entryRule image s k) ≡ some (stringByte + i)
+  string-wrong i e f =
+      before-years (stringByte + i) (wrong-among upToString afterString (stringByte + i) (string-told e ∙ ap (past stringByte) f))
+
+  -- all bytes are right up to the last of the string, and up to the shift
+  pub record StringRight : Type 0 where
+    pub length-passes : lengthTest ≡ true
+    pub string-passes : stringWrong ≡ none
+
+  pub record ShiftRight : Type 0 where
+    pub string-right : StringRight
+    pub context-passes : contextTest ≡ true
+    pub class-passes : classTest ≡ true
+    pub shift-passes : shiftTest ≡ true
+
+  after-string : StringRight → wrongByte beforeYears ≡ past contextByte (wrongByte afterString)
+  unfolding upToString
+  after-string r =
+      wrong-beyond upToString afterString (string-told (r .length-passes) ∙ ap (past stringByte) (r .string-passes))
+      ∙ ap (λ (n : ℕ). past (suc n) (wrongByte afterString)) (length-listOf _ mostLength)
+
+  pub context-byte-wrong : StringRight → contextTest ≡ false → wrongByte (entryRule image s k) ≡ some contextByte
   unfolding afterString
-  context-byte-wrong e f c =
+  context-byte-wrong r c =
       let here : wrongByte afterString ≡ some 0 = rw c (wrong-first (classTest ∷ shiftTest ∷ signsRule)) in
-      after-string e f ∙ ap (past contextByte) here
+      before-years contextByte (after-string r ∙ ap (past contextByte) here)
 
-  pub class-byte-wrong : lengthTest ≡ true → stringWrong ≡ none → contextTest ≡ true → classTest ≡ false → wrongByte (entryRule image s k) ≡ some entryClassByte
+  pub class-byte-wrong : StringRight → contextTest ≡ true → classTest ≡ false → wrongByte (entryRule image s k) ≡ some entryClassByte
   unfolding afterString
-  class-byte-wrong e f c d =
+  class-byte-wrong r c d =
       let here : wrongByte afterString ≡ some 1 = rw (c, d) (wrong-past (false ∷ shiftTest ∷ signsRule) ∙ ap (past 1) (wrong-first (shiftTest ∷ signsRule))) in
-      after-string e f ∙ ap (past contextByte) here
+      before-years entryClassByte (after-string r ∙ ap (past contextByte) here)
 
-  pub shift-byte-wrong : lengthTest ≡ true → stringWrong ≡ none → contextTest ≡ true → classTest ≡ true → shiftTest ≡ false
-      → wrongByte (entryRule image s k) ≡ some shiftByte
+  pub shift-byte-wrong : StringRight → contextTest ≡ true → classTest ≡ true → shiftTest ≡ false → wrongByte (entryRule image s k) ≡ some shiftByte
   unfolding afterString
-  shift-byte-wrong e f c d g =
+  shift-byte-wrong r c d g =
       let here : wrongByte afterString ≡ some 2 =
       rw (c, d, g) (wrong-past (true ∷ false ∷ signsRule) ∙ ap (past 1) (wrong-past (false ∷ signsRule) ∙ ap (past 1) (wrong-first signsRule))) in
-      after-string e f ∙ ap (past contextByte) here
+      before-years shiftByte (after-string r ∙ ap (past contextByte) here)
 
   -- the signs
-  pub signs-beyond : lengthTest ≡ true → stringWrong ≡ none → contextTest ≡ true → classTest ≡ true → shiftTest ≡ true
-      → wrongByte (entryRule image s k) ≡ past signsByte signsWrong
+  signs-beyond : ShiftRight → wrongByte beforeYears ≡ past signsByte signsWrong
   unfolding afterString
-  signs-beyond e f c d g =
+  signs-beyond r =
       let there : wrongByte afterString ≡ past 1 (past 1 (past 1 signsWrong)) =
-      rw (c, d, g)
+      rw (r .context-passes, r .class-passes, r .shift-passes)
       (wrong-past (true ∷ true ∷ signsRule) ∙ ap (past 1) (wrong-past (true ∷ signsRule) ∙ ap (past 1) (wrong-past signsRule ∙ ap (past 1) last))) in
-      after-string e f ∙ ap (past contextByte) there ∙ far signsWrong
+      after-string (r .string-right) ∙ ap (past contextByte) there ∙ far signsWrong
     where
       last : wrongByte signsRule ≡ signsWrong
       last = ap wrongByte signs-by-places ∙ wrong-of-places _ entrySigns
@@ -231,3 +260,27 @@ module _ (image : List ℕ) (s : Sections) (k : ℕ) where
       far : (o : Option ℕ) → past contextByte (past 1 (past 1 (past 1 o))) ≡ past signsByte o
       far none = refl
       far (some j) = ap some (omega arith)
+
+  pub sign-byte-wrong : (i : ℕ) → ShiftRight → signsWrong ≡ some i → wrongByte (entryRule image s k) ≡ some (signsByte + i)
+  sign-byte-wrong i r e = before-years (signsByte + i) (signs-beyond r ∙ ap (past signsByte) e)
+
+  -- the years
+  years-next : length beforeYears ≡ firstYearByte
+  unfolding upToString afterString signsRule listFrom
+  years-next = refl
+
+  years-beyond : ShiftRight → signsWrong ≡ none → wrongByte (entryRule image s k) ≡ past firstYearByte (wrongByte years)
+  years-beyond r e =
+      ap wrongByte in-parts
+      ∙ wrong-beyond beforeYears years (signs-beyond r ∙ ap (past signsByte) e)
+      ∙ ap (λ (n : ℕ). past n (wrongByte years)) years-next
+
+  pub years-wrong : ShiftRight → signsWrong ≡ none → yearsTest ≡ false → wrongByte (entryRule image s k) ≡ some firstYearByte
+  years-wrong r e y =
+      let here : wrongByte years ≡ some 0 = rw y (wrong-first []) in
+      years-beyond r e ∙ ap (past firstYearByte) here
+
+  pub entry-passes : ShiftRight → signsWrong ≡ none → yearsTest ≡ true → wrongByte (entryRule image s k) ≡ none
+  entry-passes r e y =
+      let here : wrongByte years ≡ none = rw y (wrong-past [] ∙ ap (past 1) none-wrong) in
+      years-beyond r e ∙ ap (past firstYearByte) here

@@ -1,6 +1,7 @@
 -- The table of every accepted image is sound: the conditions of right records, said of the table's lists alone. The idea: each element is its record as it is
--- read, and each byte of a part is the byte of the record.
+-- read, and each byte of a part is the byte of the record. And a table in the old form is always in force.
 use Prim.Native.Nat.{ℕ, _+_, _≤_, _<_}
+use mathlib.Core.Bool.{false}
 use mathlib.Core.List.{List}
 use mathlib.Core.Logic.{inl, inr}
 use mathlib.Core.Path.{_≡_, sym, _∙_, ap, subst}
@@ -8,7 +9,7 @@ use native.Mathlib.Nat.{zero-add}
 use native.Mathlib.Omega.{arith}
 use lib.ListN.{length, getD}
 use Rattle.table.specs.Search.{listOf}
-use Rattle.table.specs.Sections.{sectionsOf, offset, recordByte, recordPart}
+use Rattle.table.specs.Sections.{isDated, sectionsOf, offset, recordByte, recordPart}
 use Rattle.table.specs.Numbers.{stringByte, signsByte, entrySigns, contextSize, blank}
 use Rattle.table.specs.Records.{alphabet, contractions, contexts, transitions, decisions, sectionNamed}
 use Rattle.table.specs.Refusals.{IsClass, IsEntrySign, IsTransition, IsDecision, IsCondition, ContextExists, symbolOf, InAlphabet, RecordsRight}
@@ -17,11 +18,13 @@ use Rattle.table.specs.Refusals.{HasLetter}
 use Rattle.table.specs.Grouped.{Grouped}
 use Rattle.table.specs.Verdict.{strings, verdictOf}
 use Rattle.table.specs.Laid.{SectionsLaid}
-use Rattle.table.specs.Sound.{EachOf, SoundLetter, SoundEntry, SoundContext, SoundTransition, SoundColumn, Sound}
+use Rattle.table.specs.Sound.{EachOf, SoundLetter, SoundEntry, Always, SoundContext, SoundTransition, SoundColumn, Sound}
 use Rattle.table.specs.declared.Section.{Section}
 use Rattle.table.specs.declared.Sections.{Sections}
 use Rattle.table.specs.declared.Verdict.the-variants.{Accepted}
 use Rattle.table.proofs.Lists.{length-listOf, getD-listOf}
+use Rattle.table.proofs.Forms.{undated-years}
+use Rattle.table.proofs.Frame.{undated-section}
 use Rattle.table.proofs.Refusals.{accepted}
 use Rattle.table.proofs.Reading.{
   letters-long,
@@ -107,6 +110,7 @@ module _ (image : List ℕ) (s : Sections) (laid : SectionsLaid image s) (right 
         four-signs = part-long image (s .contractions) k signsByte entrySigns signs;
         signs-right = each-of-part image (s .contractions) k signsByte entrySigns signs IsEntrySign (r .signs-right);
         nothing-after = λ i j d u v e. sign-at j d v ∙ r .nothing-after i j u v (sym (sign-at i d (omega arith)) ∙ e);
+        years-right = r .years-right;
       }
 
   pub sound-entries : EachOf (SoundEntry (s .classes) (length (tableIn image s .contexts)) (tableIn image s .letters)) (tableIn image s .entries)
@@ -178,3 +182,14 @@ accepted-sound image accepts =
     let h = accepted image .0 accepts in
     let located = accepted-located image accepts in
     sound image (sectionsOf image) (accepted-laid image accepts) (accepted-right image accepts) (rw located (h .2)) (rw located (h .3))
+
+-- ---- A table in the old form counts as always in force
+
+pub old-form-always : (image : List ℕ) → isDated image ≡ false → EachOf Always (tableOf image .entries)
+unfolding tableOf tableIn entryAt
+old-form-always image old =
+    let s = sectionsOf image in
+    each-of-list Always (entryAt image s) _
+    (λ k l.
+    let years = undated-years image (s .contractions) k (undated-section image old) in
+    record { first-is = years .0; last-is = years .1 })

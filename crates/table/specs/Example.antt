@@ -1,4 +1,5 @@
--- 'A table and examples to prove': the table, as the 218 bytes of its image and as lists. proofs/Example.antt shows that the one is read as the other.
+-- 'A table and examples to prove': the table, as the 218 bytes of its image and as lists. And 'Dates on entries': the same table with years, of which COM
+-- has those from 1932 to 2015 and the other entries all, as 246 bytes and as lists. proofs/Example.antt shows that an image is read as its lists.
 use Prim.Native.Nat.{ℕ}
 use Prim.Native.Char.{code}
 use Prim.Native.String.{String, len, charAt}
@@ -14,8 +15,14 @@ ascii s = listOf (λ i. code (charAt s i)) (len s)
 unfoldable pub aLetter : String → ℕ → ℕ → Letter
 aLetter s c g = record { symbol = code (charAt s 0); class = c; sign = g }
 
+-- an entry that is always in force
 unfoldable pub anEntry : String → ℕ → ℕ → ℕ → List ℕ → Entry
-anEntry s x c n gs = record { string = ascii s; context = x; class = c; shift = n; signs = gs }
+anEntry s x c n gs = record { string = ascii s; context = x; class = c; shift = n; signs = gs; first = 0; last = 65535 }
+
+-- the same entry, in force from one year to another
+unfoldable pub inYears : ℕ → ℕ → Entry → Entry
+inYears f l e =
+    record { string = e .string; context = e .context; class = e .class; shift = e .shift; signs = e .signs; first = f; last = l }
 
 unfoldable pub aColumn : String → String → Column
 aColumn c v = record { byClass = ascii c; conditions = ascii v }
@@ -44,15 +51,36 @@ alphabetBytes =
     ∷ 83 ∷ 1 ∷ 14
     ∷ 85 ∷ 1 ∷ 37 ∷ []
 
+abbrev pub bytesCOM : List ℕ
+bytesCOM =
+    3 ∷ 67 ∷ 79 ∷ 77 ∷ 0 ∷ 0 ∷ 0 ∷ 0 ∷ 0 ∷ 0 ∷ 0 ∷ 0 ∷ 4 ∷ 3 ∷ 36 ∷ 99 ∷ 99 ∷ 99 ∷ []
+
+abbrev pub bytesFUL : List ℕ
+bytesFUL =
+    3 ∷ 70 ∷ 85 ∷ 76 ∷ 0 ∷ 0 ∷ 0 ∷ 0 ∷ 0 ∷ 0 ∷ 0 ∷ 0 ∷ 5 ∷ 3 ∷ 48 ∷ 7 ∷ 99 ∷ 99 ∷ []
+
+abbrev pub bytesBLIND : List ℕ
+bytesBLIND =
+    5 ∷ 66 ∷ 76 ∷ 73 ∷ 78 ∷ 68 ∷ 0 ∷ 0 ∷ 0 ∷ 0 ∷ 0 ∷ 1 ∷ 4 ∷ 5 ∷ 3 ∷ 7 ∷ 99 ∷ 99 ∷ []
+
+abbrev pub bytesP : List ℕ
+bytesP =
+    2 ∷ 36 ∷ 80 ∷ 0 ∷ 0 ∷ 0 ∷ 0 ∷ 0 ∷ 0 ∷ 0 ∷ 0 ∷ 0 ∷ 2 ∷ 2 ∷ 72 ∷ 99 ∷ 99 ∷ 99 ∷ []
+
+abbrev pub bytesL : List ℕ
+bytesL =
+    2 ∷ 36 ∷ 76 ∷ 0 ∷ 0 ∷ 0 ∷ 0 ∷ 0 ∷ 0 ∷ 0 ∷ 0 ∷ 0 ∷ 2 ∷ 2 ∷ 70 ∷ 99 ∷ 99 ∷ 99 ∷ []
+
+abbrev pub bytesS : List ℕ
+bytesS =
+    2 ∷ 36 ∷ 83 ∷ 0 ∷ 0 ∷ 0 ∷ 0 ∷ 0 ∷ 0 ∷ 0 ∷ 0 ∷ 0 ∷ 2 ∷ 2 ∷ 70 ∷ 71 ∷ 99 ∷ 99 ∷ []
+
+abbrev pub bytesN : List ℕ
+bytesN =
+    2 ∷ 36 ∷ 78 ∷ 0 ∷ 0 ∷ 0 ∷ 0 ∷ 0 ∷ 0 ∷ 0 ∷ 0 ∷ 0 ∷ 2 ∷ 2 ∷ 73 ∷ 99 ∷ 99 ∷ 99 ∷ []
+
 abbrev pub contractionsBytes : List ℕ
-contractionsBytes =
-    3 ∷ 67 ∷ 79 ∷ 77 ∷ 0 ∷ 0 ∷ 0 ∷ 0 ∷ 0 ∷ 0 ∷ 0 ∷ 0 ∷ 4 ∷ 3 ∷ 36 ∷ 99 ∷ 99 ∷ 99
-    ∷ 3 ∷ 70 ∷ 85 ∷ 76 ∷ 0 ∷ 0 ∷ 0 ∷ 0 ∷ 0 ∷ 0 ∷ 0 ∷ 0 ∷ 5 ∷ 3 ∷ 48 ∷ 7 ∷ 99 ∷ 99
-    ∷ 5 ∷ 66 ∷ 76 ∷ 73 ∷ 78 ∷ 68 ∷ 0 ∷ 0 ∷ 0 ∷ 0 ∷ 0 ∷ 1 ∷ 4 ∷ 5 ∷ 3 ∷ 7 ∷ 99 ∷ 99
-    ∷ 2 ∷ 36 ∷ 80 ∷ 0 ∷ 0 ∷ 0 ∷ 0 ∷ 0 ∷ 0 ∷ 0 ∷ 0 ∷ 0 ∷ 2 ∷ 2 ∷ 72 ∷ 99 ∷ 99 ∷ 99
-    ∷ 2 ∷ 36 ∷ 76 ∷ 0 ∷ 0 ∷ 0 ∷ 0 ∷ 0 ∷ 0 ∷ 0 ∷ 0 ∷ 0 ∷ 2 ∷ 2 ∷ 70 ∷ 99 ∷ 99 ∷ 99
-    ∷ 2 ∷ 36 ∷ 83 ∷ 0 ∷ 0 ∷ 0 ∷ 0 ∷ 0 ∷ 0 ∷ 0 ∷ 0 ∷ 0 ∷ 2 ∷ 2 ∷ 70 ∷ 71 ∷ 99 ∷ 99
-    ∷ 2 ∷ 36 ∷ 78 ∷ 0 ∷ 0 ∷ 0 ∷ 0 ∷ 0 ∷ 0 ∷ 0 ∷ 0 ∷ 0 ∷ 2 ∷ 2 ∷ 73 ∷ 99 ∷ 99 ∷ 99 ∷ []
+contractionsBytes = bytesCOM ++ bytesFUL ++ bytesBLIND ++ bytesP ++ bytesL ++ bytesS ++ bytesN
 
 abbrev pub contextsBytes : List ℕ
 contextsBytes =
@@ -75,10 +103,56 @@ trailerBytes =
 abbrev pub image : List ℕ
 image = alphabetBytes ++ contractionsBytes ++ contextsBytes ++ transitionsBytes ++ decisionsBytes ++ trailerBytes
 
+-- ---- The image with years
+
+-- 1932 to 2015, and 0 to 65,535
+abbrev pub yearsCOM : List ℕ
+yearsCOM = 140 ∷ 7 ∷ 223 ∷ 7 ∷ []
+
+abbrev pub always : List ℕ
+always = 0 ∷ 0 ∷ 255 ∷ 255 ∷ []
+
+abbrev pub datedContractionsBytes : List ℕ
+datedContractionsBytes =
+    bytesCOM
+    ++ yearsCOM
+    ++ bytesFUL
+    ++ always
+    ++ bytesBLIND
+    ++ always
+    ++ bytesP
+    ++ always
+    ++ bytesL
+    ++ always
+    ++ bytesS
+    ++ always
+    ++ bytesN
+    ++ always
+
+abbrev pub datedTrailerBytes : List ℕ
+datedTrailerBytes =
+    232 ∷ 0 ∷ 175 ∷ 0 ∷ 21 ∷ 0 ∷ 17 ∷ 0 ∷ 12 ∷ 0 ∷ 5 ∷ 1 ∷ 66 ∷ 52 ∷ []
+
+abbrev pub datedImage : List ℕ
+datedImage = alphabetBytes ++ datedContractionsBytes ++ contextsBytes ++ transitionsBytes ++ decisionsBytes ++ datedTrailerBytes
+
 -- ---- The same table as lists
 
-abbrev pub table : Table
-table =
+abbrev pub entryCOM : Entry
+entryCOM = anEntry "COM" 0 4 3 (36 ∷ 99 ∷ 99 ∷ 99 ∷ [])
+
+abbrev pub otherEntries : List Entry
+otherEntries =
+    anEntry "FUL" 0 5 3 (48 ∷ 7 ∷ 99 ∷ 99 ∷ [])
+    ∷ anEntry "BLIND" 1 4 5 (3 ∷ 7 ∷ 99 ∷ 99 ∷ [])
+    ∷ anEntry "$P" 0 2 2 (72 ∷ 99 ∷ 99 ∷ 99 ∷ [])
+    ∷ anEntry "$L" 0 2 2 (70 ∷ 99 ∷ 99 ∷ 99 ∷ [])
+    ∷ anEntry "$S" 0 2 2 (70 ∷ 71 ∷ 99 ∷ 99 ∷ [])
+    ∷ anEntry "$N" 0 2 2 (73 ∷ 99 ∷ 99 ∷ 99 ∷ []) ∷ []
+
+-- the table with these entries
+abbrev pub tableWith : List Entry → Table
+tableWith entries =
     record {
       letters =
           aLetter " " 2 0
@@ -100,15 +174,14 @@ table =
           ∷ aLetter "R" 1 23
           ∷ aLetter "S" 1 14
           ∷ aLetter "U" 1 37 ∷ [];
-      entries =
-          anEntry "COM" 0 4 3 (36 ∷ 99 ∷ 99 ∷ 99 ∷ [])
-          ∷ anEntry "FUL" 0 5 3 (48 ∷ 7 ∷ 99 ∷ 99 ∷ [])
-          ∷ anEntry "BLIND" 1 4 5 (3 ∷ 7 ∷ 99 ∷ 99 ∷ [])
-          ∷ anEntry "$P" 0 2 2 (72 ∷ 99 ∷ 99 ∷ 99 ∷ [])
-          ∷ anEntry "$L" 0 2 2 (70 ∷ 99 ∷ 99 ∷ 99 ∷ [])
-          ∷ anEntry "$S" 0 2 2 (70 ∷ 71 ∷ 99 ∷ 99 ∷ [])
-          ∷ anEntry "$N" 0 2 2 (73 ∷ 99 ∷ 99 ∷ 99 ∷ []) ∷ [];
+      entries = entries;
       contexts = (2 ∷ 3 ∷ 3 ∷ 3 ∷ []) ∷ [];
       transitions = ascii "SR-SS" ∷ [];
       decisions = aColumn "GGGNY" "Y" ∷ aColumn "---G-" "-" ∷ [];
     }
+
+abbrev pub table : Table
+table = tableWith (entryCOM ∷ otherEntries)
+
+abbrev pub datedTable : Table
+datedTable = tableWith (inYears 1932 2015 entryCOM ∷ otherEntries)

@@ -52,8 +52,12 @@ secondMarkByte = 13
 abbrev pub firstMark : ℕ
 firstMark = 66
 
+-- the last mark tells the form of the contraction records: without years, or with them
 abbrev pub secondMark : ℕ
 secondMark = 51
+
+abbrev pub datedMark : ℕ
+datedMark = 52
 
 abbrev pub leastClasses : ℕ
 leastClasses = 1
@@ -77,6 +81,10 @@ mostLetters = 63
 
 abbrev pub entrySize : ℕ
 entrySize = 18
+
+-- with two years after the signs
+abbrev pub datedEntrySize : ℕ
+datedEntrySize = 22
 
 abbrev pub leastEntries : ℕ
 leastEntries = 0
@@ -135,6 +143,12 @@ shiftByte = 13
 abbrev pub signsByte : ℕ
 signsByte = 14
 
+abbrev pub firstYearByte : ℕ
+firstYearByte = 18
+
+abbrev pub lastYearByte : ℕ
+lastYearByte = 20
+
 abbrev pub leastLength : ℕ
 leastLength = 1
 
@@ -152,6 +166,14 @@ leastShift = 1
 
 abbrev pub entrySigns : ℕ
 entrySigns = 4
+
+-- ---- The years of an entry, both counted in: from the earliest to the latest stands for always
+
+abbrev pub earliestYear : ℕ
+earliestYear = 0
+
+abbrev pub latestYear : ℕ
+latestYear = 65535
 
 -- ---- Symbols: 32 to 126, and not the bar
 
@@ -237,6 +259,9 @@ numberUnknown = 7
 
 abbrev pub numberFollowing : ℕ
 numberFollowing = 15
+
+abbrev pub numberDated : ℕ
+numberDated = 17
 
 abbrev pub numberRoom : ℕ
 numberRoom = 8

@@ -1,5 +1,4 @@
--- What each public function of this crate promises, and `locate`, which `open` and the layers above rest on, as a relation between what it is given and
--- what it answers. proofs/Promises.antt shows that any two answers that a promise allows are equal.
+-- What each public function of this crate promises, as a relation between what it is given and what it answers. proofs/Promises.antt shows that any two answers that a promise allows are equal.
 use Prim.Native.Nat.{ℕ, _+_}
 use mathlib.Core.Bool.{cond}
 use mathlib.Core.List.{List, []}
@@ -7,11 +6,12 @@ use mathlib.Core.Path.{_≡_}
 use lib.Dec.{leb}
 use lib.ListN.{length}
 use denote.Ref.{RefT, now}
-use Rattle.table.specs.Sections.{sectionsOf, offset, recordByte, recordPart}
+use Rattle.table.specs.Sections.{sectionsOf, offset, recordByte, recordPart, firstYear, lastYear}
 use Rattle.table.specs.Answers.{refusalNumber, refusalPlace}
 use Rattle.table.specs.Verdict.{verdictOf}
 use Rattle.table.specs.declared.Section.{Section}
 use Rattle.table.specs.declared.Sections.{Sections}
+use Rattle.table.specs.declared.Years.{Years}
 use Rattle.table.specs.declared.Refusal.{Refusal}
 use Rattle.table.specs.declared.Verdict.{Verdict}
 use Rattle.table.specs.declared.Reader.{Reader}
@@ -31,6 +31,11 @@ partWithin image s k j n = cond (leb (offset s k + j + n) (length image)) (recor
 -- `record_part`
 pub record RecordPart (image : List ℕ) (s : Section) (k j n : ℕ) (answer : List ℕ) : Type 0 where
   pub is : answer ≡ partWithin image s k j n
+
+-- `years_of`: the years of the contraction record, always where the section's records have none; a byte outside the image counts as 0
+pub record YearsOf (image : List ℕ) (entries : Section) (k : ℕ) (answer : Years) : Type 0 where
+  pub first-is : answer .first ≡ firstYear image entries k
+  pub last-is : answer .last ≡ lastYear image entries k
 
 -- `check`: the verdict of the definitions
 pub record Checked (image : List ℕ) (answer : Verdict) : Type 0 where

@@ -7,7 +7,7 @@ use lib.ListN.{length, getD, take}
 use lib.Dec.{leb, ltb, eqb}
 use Rattle.table.specs.Numbers.{otherBlank, noCell, signLineEnd, signPageEnd, symbolByte, letterClassByte, letterSignByte, lengthByte, stringByte, contextByte, entryClassByte, shiftByte, signsByte, entrySigns, leastLength, mostLength, padding, noContext, leastShift, leastSymbol, mostSymbol, bar, leastClass, contextSize, turnNo, turnYes, turnOther, accepts, rejects, byteYes, byteNo, dash}
 use Rattle.table.specs.Search.{within, first, isThere, listOf, member}
-use Rattle.table.specs.Sections.{recordByte}
+use Rattle.table.specs.Sections.{recordByte, firstYear, lastYear}
 use Rattle.table.specs.declared.Section.{Section}
 use Rattle.table.specs.declared.Sections.{Sections}
 
@@ -69,6 +69,7 @@ rightStringByte alphabet len i c = cond (ltb i len) (member c alphabet) (eqb c p
 unfoldable pub rightContextByte : Sections → ℕ → ℕ → Bool
 rightContextByte s len c = leb c (s .contexts .records) && (eqb c noContext || not (eqb len mostLength))
 
+-- the last test is that of the first-year byte. A record without years has no such byte, and always passes
 unfoldable pub entryRule : List ℕ → Sections → ℕ → List Bool
 entryRule image s k =
     let byte : ℕ → ℕ = recordByte image (s .contractions) k in
@@ -79,6 +80,8 @@ entryRule image s k =
     ∷ within leastShift (byte lengthByte) (byte shiftByte)
     ∷ rightEntrySign (byte signsByte)
     ∷ listOf (λ i. rightSignAfter (byte (signsByte + i)) (byte (signsByte + 1 + i))) (entrySigns - 1)
+    ++ leb (firstYear image (s .contractions) k) (lastYear image (s .contractions) k)
+    ∷ []
 
 unfoldable pub contextRule : List ℕ → Sections → ℕ → List Bool
 contextRule image s k = listOf (λ j. rightClass s (recordByte image (s .contexts) k j)) contextSize

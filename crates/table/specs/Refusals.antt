@@ -6,9 +6,9 @@ use mathlib.Core.List.{List, [], _∷_, _++_}
 use mathlib.Core.Logic.{_⊎_}
 use mathlib.Core.Path.{_≡_}
 use lib.ListN.{length, getD}
-use Rattle.table.specs.Numbers.{otherBlank, noCell, signLineEnd, signPageEnd, trailerSize, firstMarkByte, secondMarkByte, firstMark, secondMark, leastClasses, mostClasses, mostVariables, letterSize, leastLetters, mostLetters, entrySize, leastEntries, mostEntries, contextSize, leastContexts, mostContexts, leastColumns, mostColumns, leastClass, symbolByte, letterClassByte, letterSignByte, lengthByte, stringByte, contextByte, entryClassByte, shiftByte, signsByte, leastLength, mostLength, padding, noContext, leastShift, entrySigns, leastSymbol, mostSymbol, blank, bar, turnNo, turnYes, turnOther, accepts, rejects, byteYes, byteNo, dash, numberDone, numberFrame, numberAlphabet, numberContractions, numberContexts, numberTransitions, numberDecisions, numberNoBlank, numberGrouping, noPlace}
+use Rattle.table.specs.Numbers.{otherBlank, noCell, signLineEnd, signPageEnd, trailerSize, firstMarkByte, secondMarkByte, firstMark, secondMark, datedMark, leastClasses, mostClasses, mostVariables, letterSize, leastLetters, mostLetters, entrySize, datedEntrySize, leastEntries, mostEntries, contextSize, leastContexts, mostContexts, leastColumns, mostColumns, leastClass, symbolByte, letterClassByte, letterSignByte, lengthByte, stringByte, contextByte, entryClassByte, shiftByte, signsByte, leastLength, mostLength, padding, noContext, leastShift, entrySigns, leastSymbol, mostSymbol, blank, bar, turnNo, turnYes, turnOther, accepts, rejects, byteYes, byteNo, dash, numberDone, numberFrame, numberAlphabet, numberContractions, numberContexts, numberTransitions, numberDecisions, numberNoBlank, numberGrouping, noPlace}
 use Rattle.table.specs.Search.{listOf}
-use Rattle.table.specs.Sections.{byteAt, trailerAt, distance, classesIn, variablesIn, sectionsIn, offset, recordByte}
+use Rattle.table.specs.Sections.{byteAt, trailerAt, distance, classesIn, variablesIn, sectionsIn, offset, recordByte, firstYear, lastYear}
 use Rattle.table.specs.Records.{SectionName, alphabet, contractions, contexts, transitions, decisions, sectionNamed}
 use Rattle.table.specs.Table.{Letter, tableIn}
 use Rattle.table.specs.Grouped.{FirstToBreak}
@@ -31,11 +31,17 @@ pub record WholeRecords (size bytes least most : ℕ) : Type 0 where
   pub whole : size * number ≡ bytes
   pub allowed : Between least most number
 
+-- where the trailer's last byte is 51 a contraction record has 18 bytes, and where it is 52 it has 22
+pub data EntryForm (image : List ℕ) : ℕ → Type 0 where
+  old-form : byteAt image (trailerAt image + secondMarkByte) ≡ secondMark → EntryForm image entrySize
+  new-form : byteAt image (trailerAt image + secondMarkByte) ≡ datedMark → EntryForm image datedEntrySize
+
 pub record FrameRight (image : List ℕ) : Type 0 where
   pub trailer-there : trailerSize ≤ length image
-  -- bytes 66, 51
+  -- bytes 66, and 51 or 52
   pub first-mark : byteAt image (trailerAt image + firstMarkByte) ≡ firstMark
-  pub second-mark : byteAt image (trailerAt image + secondMarkByte) ≡ secondMark
+  pub entry-size : ℕ
+  pub form : EntryForm image entry-size
   -- number of classes (1..40); number of state variables (0..15)
   pub classes-right : Between leastClasses mostClasses (classesIn image)
   pub variables-right : variablesIn image ≤ mostVariables
@@ -44,7 +50,7 @@ pub record FrameRight (image : List ℕ) : Type 0 where
   pub never-rise : (k : ℕ) → k < 4 → distance image (k + 1) ≤ distance image k
   -- each section holds whole records, in the allowed number
   pub alphabet-whole : WholeRecords letterSize (distance image 0 - distance image 1) leastLetters mostLetters
-  pub contractions-whole : WholeRecords entrySize (distance image 1 - distance image 2) leastEntries mostEntries
+  pub contractions-whole : WholeRecords entry-size (distance image 1 - distance image 2) leastEntries mostEntries
   pub contexts-whole : WholeRecords contextSize (distance image 2 - distance image 3) leastContexts mostContexts
   pub transitions-whole : WholeRecords (classesIn image) (distance image 3 - distance image 4) (variablesIn image) (variablesIn image)
   pub decisions-whole : WholeRecords (classesIn image + variablesIn image) (distance image 4) leastColumns mostColumns
@@ -119,6 +125,8 @@ pub record RightEntry (image : List ℕ) (s : Sections) (k : ℕ) : Type 0 where
   pub signs-right : (i : ℕ) → i < entrySigns → IsEntrySign (entryByte image s k (signsByte + i))
   pub nothing-after :
       (i j : ℕ) → i < j → j < entrySigns → entryByte image s k (signsByte + i) ≡ noCell → entryByte image s k (signsByte + j) ≡ noCell
+  -- the first year isn't after the last
+  pub years-right : firstYear image (s .contractions) k ≤ lastYear image (s .contractions) k
 
 -- four classes, repeats allowed
 pub record RightContext (image : List ℕ) (s : Sections) (k : ℕ) : Type 0 where
@@ -173,6 +181,9 @@ entryBytes image s k =
     ∷ Between leastShift (byte lengthByte) (byte shiftByte)
     ∷ IsEntrySign (byte signsByte)
     ∷ listOf (λ i. IsSignAfter (byte (signsByte + i)) (byte (signsByte + 1 + i))) (entrySigns - 1)
+    -- at the first-year byte: that year isn't after the last. Without years the record has no such byte, and nothing wrong there
+    ++ (firstYear image (s .contractions) k ≤ lastYear image (s .contractions) k)
+    ∷ []
 
 abbrev pub bytesOf : List ℕ → Sections → SectionName → ℕ → List (Type 0)
 bytesOf image s alphabet k = letterBytes image s k

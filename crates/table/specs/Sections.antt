@@ -1,10 +1,11 @@
--- 'The table image': five sections back to back, the trailer that points back to them, and the frame: all that answer 1 covers.
+-- 'The table image', and 'Dates on entries': five sections back to back, the trailer that points back to them and tells the form of the contraction
+-- records, and the frame: all that answer 1 covers. And the bytes and the years of a record.
 use Prim.Native.Nat.{ℕ, _+_, _-_, _*_, _/_}
-use mathlib.Core.Bool.{Bool, true, false, _&&_}
+use mathlib.Core.Bool.{Bool, true, false, cond, _&&_, _||_}
 use mathlib.Core.List.{List}
 use lib.ListN.{length, getD, take, drop}
 use lib.Dec.{leb, eqb}
-use Rattle.table.specs.Numbers.{trailerSize, distanceSize, lowByteRoom, classesByte, variablesByte, firstMarkByte, secondMarkByte, firstMark, secondMark, leastClasses, mostClasses, mostVariables, letterSize, leastLetters, mostLetters, entrySize, leastEntries, mostEntries, contextSize, leastContexts, mostContexts, leastColumns, mostColumns}
+use Rattle.table.specs.Numbers.{trailerSize, distanceSize, lowByteRoom, classesByte, variablesByte, firstMarkByte, secondMarkByte, firstMark, secondMark, datedMark, leastClasses, mostClasses, mostVariables, letterSize, leastLetters, mostLetters, entrySize, datedEntrySize, leastEntries, mostEntries, contextSize, leastContexts, mostContexts, leastColumns, mostColumns, firstYearByte, lastYearByte, earliestYear, latestYear}
 use Rattle.table.specs.Search.{within}
 use Rattle.table.specs.declared.Section.{Section}
 use Rattle.table.specs.declared.Sections.{Sections}
@@ -37,6 +38,13 @@ classesIn image = byteAt image (trailerAt image + classesByte)
 unfoldable pub variablesIn : List ℕ → ℕ
 variablesIn image = byteAt image (trailerAt image + variablesByte)
 
+-- contraction records have years
+unfoldable pub isDated : List ℕ → Bool
+isDated image = eqb (byteAt image (trailerAt image + secondMarkByte)) datedMark
+
+unfoldable pub entrySizeIn : List ℕ → ℕ
+entrySizeIn image = cond (isDated image) datedEntrySize entrySize
+
 -- ---- The sections, as the trailer gives them
 
 -- section `k`, from its own distance to the next one's
@@ -53,7 +61,7 @@ unfoldable pub sectionsIn : List ℕ → Sections
 sectionsIn image =
     record {
       alphabet = sectionAt image 0 letterSize;
-      contractions = sectionAt image 1 entrySize;
+      contractions = sectionAt image 1 (entrySizeIn image);
       contexts = sectionAt image 2 contextSize;
       transitions = sectionAt image 3 (classesIn image);
       decisions = lastSection image (classesIn image + variablesIn image);
@@ -67,7 +75,7 @@ sectionsIn image =
 unfoldable pub trailerRight : List ℕ → Bool
 trailerRight image =
     eqb (byteAt image (trailerAt image + firstMarkByte)) firstMark
-    && eqb (byteAt image (trailerAt image + secondMarkByte)) secondMark
+    && (eqb (byteAt image (trailerAt image + secondMarkByte)) secondMark || isDated image)
     && within leastClasses mostClasses (classesIn image)
     && leb (variablesIn image) mostVariables
 
@@ -128,3 +136,11 @@ recordByte image s k j = byteAt image (offset s k + j)
 -- the `n` bytes from byte `j` of record `k` on
 unfoldable pub recordPart : List ℕ → Section → ℕ → ℕ → ℕ → List ℕ
 recordPart image s k j n = bytesFrom image (offset s k + j) n
+
+-- ---- The years of contraction record `k`, both counted in. Records that have none count as always in force
+
+unfoldable pub firstYear : List ℕ → Section → ℕ → ℕ
+firstYear image entries k = cond (eqb (entries .size) datedEntrySize) (numberAt image (offset entries k + firstYearByte)) earliestYear
+
+unfoldable pub lastYear : List ℕ → Section → ℕ → ℕ
+lastYear image entries k = cond (eqb (entries .size) datedEntrySize) (numberAt image (offset entries k + lastYearByte)) latestYear

@@ -4,7 +4,7 @@ use Prim.Native.Nat.{ℕ, _≤_, _<_}
 use mathlib.Core.List.{List}
 use mathlib.Core.Path.{_≡_}
 use lib.ListN.{length, getD}
-use Rattle.table.specs.Numbers.{noCell, leastClasses, mostClasses, mostVariables, leastLetters, mostLetters, mostEntries, contextSize, mostContexts, mostColumns, leastClass, leastLength, mostLength, noContext, leastShift, entrySigns, leastSymbol, mostSymbol, blank, bar}
+use Rattle.table.specs.Numbers.{noCell, leastClasses, mostClasses, mostVariables, leastLetters, mostLetters, mostEntries, contextSize, mostContexts, mostColumns, leastClass, leastLength, mostLength, noContext, leastShift, entrySigns, leastSymbol, mostSymbol, blank, bar, earliestYear, latestYear}
 use Rattle.table.specs.Table.{Letter, Entry, Column, Table}
 use Rattle.table.specs.Refusals.{HasLetter, Between, IsLetterSign, IsEntrySign, IsTransition, IsDecision, IsCondition}
 use Rattle.table.specs.Grouped.{Grouped}
@@ -30,6 +30,12 @@ pub record SoundEntry (classes contexts : ℕ) (letters : List Letter) (e : Entr
   pub four-signs : length (e .signs) ≡ entrySigns
   pub signs-right : EachOf IsEntrySign (e .signs)
   pub nothing-after : (i j d : ℕ) → i < j → j < entrySigns → getD (e .signs) i d ≡ noCell → getD (e .signs) j d ≡ noCell
+  pub years-right : e .first ≤ e .last
+
+-- in force in every year
+pub record Always (e : Entry) : Type 0 where
+  pub first-is : e .first ≡ earliestYear
+  pub last-is : e .last ≡ latestYear
 
 -- four classes
 pub record SoundContext (classes : ℕ) (context : List ℕ) : Type 0 where

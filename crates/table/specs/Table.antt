@@ -3,7 +3,7 @@ use Prim.Native.Nat.{ℕ}
 use mathlib.Core.List.{List}
 use Rattle.table.specs.Numbers.{symbolByte, letterClassByte, letterSignByte, lengthByte, stringByte, contextByte, entryClassByte, shiftByte, signsByte, entrySigns, contextSize}
 use Rattle.table.specs.Search.{listOf}
-use Rattle.table.specs.Sections.{sectionsOf, recordByte, recordPart}
+use Rattle.table.specs.Sections.{sectionsOf, recordByte, recordPart, firstYear, lastYear}
 use Rattle.table.specs.declared.Sections.{Sections}
 
 -- an alphabet record
@@ -12,13 +12,15 @@ pub record Letter : Type 0 where
   pub class : ℕ
   pub sign : ℕ
 
--- a contraction record; the context is 0 for none, or its number from 1
+-- a contraction record; the context is 0 for none, or its number from 1; the entry is in force from its first year to its last
 pub record Entry : Type 0 where
   pub string : List ℕ
   pub context : ℕ
   pub class : ℕ
   pub shift : ℕ
   pub signs : List ℕ
+  pub first : ℕ
+  pub last : ℕ
 
 -- a decision column: a byte for each class, and one for each state variable
 pub record Column : Type 0 where
@@ -49,6 +51,8 @@ entryAt image s k =
       class = recordByte image (s .contractions) k entryClassByte;
       shift = recordByte image (s .contractions) k shiftByte;
       signs = recordPart image (s .contractions) k signsByte entrySigns;
+      first = firstYear image (s .contractions) k;
+      last = lastYear image (s .contractions) k;
     }
 
 unfoldable pub contextAt : List ℕ → Sections → ℕ → List ℕ

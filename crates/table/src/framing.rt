@@ -6,7 +6,7 @@ ghost use mathlib.Core.Path.{_≡_};
 ghost use mathlib.Core.Bool.{true};
 ghost use Prim.Native.Nat.{_+_, _-_, _/_, _<_, _≤_};
 ghost use lib.ListN.{length};
-ghost use Rattle.table.specs.Sections.{numberAt, distance, trailerRight, distancesRight, wholeRecords, lengthsRight, sectionsIn, noSections};
+ghost use Rattle.table.specs.Sections.{numberAt, distance, entrySizeIn, trailerRight, distancesRight, wholeRecords, lengthsRight, sectionsIn, noSections};
 ghost use Rattle.table.specs.Promises.{Located};
 use crate::Section;
 use crate::Sections;
@@ -43,8 +43,9 @@ fn trailer_right(image: &[u8]) -> bool
 {
     let at = image.len() - TRAILER;
     let classes = image[at + 10];
+    let mark = image[at + 13];
     (image[at + 12] == 66)
-        & (image[at + 13] == 51)
+        & ((mark == 51) | (mark == 52))
         & ((1 <= classes) & (classes <= 40))
         & (image[at + 11] <= 15)
 }
@@ -60,6 +61,15 @@ fn distances_right(image: &[u8]) -> bool
     let d3 = distance_of(image, 3);
     let d4 = distance_of(image, 4);
     (d0 == image.len() - TRAILER) & (d1 <= d0) & (d2 <= d1) & (d3 <= d2) & (d4 <= d3)
+}
+
+// The bytes of a contraction record: with its years where the trailer's last byte is 52.
+fn entry_size(image: &[u8]) -> u16
+    requires { ⌜ 14 ≤ length (now image) ⌝ }
+    ensures { λ r. ⌜ r ≡ entrySizeIn (now (image .entry)) ⌝ }
+{
+    let at = image.len() - TRAILER;
+    if image[at + 13] == 52 { 22 } else { 18 }
 }
 
 // The section from distance `d` to distance `e` before a trailer at `at`, in records of `size`
@@ -90,9 +100,10 @@ fn sections_in(image: &[u8]) -> Sections
     let d2 = distance_of(image, 2);
     let d3 = distance_of(image, 3);
     let d4 = distance_of(image, 4);
+    let size = entry_size(image);
     Sections {
         alphabet: section_of(at, d0, d1, 3),
-        contractions: section_of(at, d1, d2, 18),
+        contractions: section_of(at, d1, d2, size),
         contexts: section_of(at, d2, d3, 4),
         transitions: section_of(at, d3, d4, classes),
         decisions: section_of(at, d4, 0, classes + variables),
@@ -154,7 +165,7 @@ fn no_sections() -> Sections
 }
 
 // The sections of any image: none where its frame is wrong.
-pub(crate) fn locate(image: &[u8]) -> Sections
+pub fn locate(image: &[u8]) -> Sections
     ensures { λ r. ⌜ Located (now (image .entry)) r ⌝ }
 {
     if image.len() < TRAILER {

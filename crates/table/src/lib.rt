@@ -1,7 +1,7 @@
-// A contraction table's stored image: where its five sections lie, what is wrong with it, if
-// anything, and its records, read where they lie; and the refusals of every call. No function has
-// to be asked with care: each answers for every image and every index. What each answer means is
-// said in specs/.
+// A contraction table's stored image, with years on its entries or without: where its five sections
+// lie, what is wrong with it, if anything, and its records, read where they lie; and the refusals of
+// every call. No function has to be asked with care: each answers for every image and every index.
+// What each answer means is said in specs/.
 
 mod framing;
 mod groups;
@@ -11,10 +11,12 @@ mod read;
 mod records;
 mod refusing;
 
+pub use framing::locate;
 pub use opening::check;
 pub use opening::open;
 pub use read::record_byte;
 pub use read::record_part;
+pub use read::years_of;
 
 // One section of the image: the offset of its first byte, the bytes of one record, and how many
 // records it has.
@@ -36,6 +38,12 @@ pub struct Sections {
     pub variables: u16,
 }
 
+// The years in which an entry is in force, both counted in.
+pub struct Years {
+    pub first: u16,
+    pub last: u16,
+}
+
 // Why a call is refused, whichever it is: the paper's table of refusals, each with its place where
 // that isn't fixed.
 pub enum Refusal {
@@ -51,6 +59,7 @@ pub enum Refusal {
     LongText,
     Unknown(usize),
     Following,
+    Dated(usize),
     Room(usize),
 }
 

@@ -1,12 +1,13 @@
-// Readers: single bytes and parts of records, read out of the lent image by a section and the
-// numbers of a record and a byte. The numbers are so narrow that no offset overflows; outside the
-// image a byte is 0 and a part is empty.
+// Readers: single bytes and parts of records, and the years of an entry, read out of the lent image
+// by a section and the numbers of a record and a byte. The numbers are so narrow that no offset
+// overflows; outside the image a byte is 0 and a part is empty.
 
 ghost use mathlib.Core.Path.{_≡_};
-ghost use Prim.Native.Nat.{_<_, _^_};
-ghost use Rattle.table.specs.Sections.{offset};
-ghost use Rattle.table.specs.Promises.{RecordByte, RecordPart};
+ghost use Prim.Native.Nat.{_+_, _<_, _^_};
+ghost use Rattle.table.specs.Sections.{offset, numberAt};
+ghost use Rattle.table.specs.Promises.{RecordByte, RecordPart, YearsOf};
 use crate::Section;
+use crate::Years;
 
 // The offset of record `k` of a section.
 pub(crate) fn offset_of(s: Section, k: u16) -> usize
@@ -36,5 +37,32 @@ pub fn record_part(image: &[u8], s: Section, k: u16, j: u16, n: u16) -> &[u8]
         &image[at..end]
     } else {
         &image[0..0]
+    }
+}
+
+// The two-byte number at byte `j` of record `k` of a section, low byte first.
+fn record_number(image: &[u8], s: Section, k: u16, j: u16) -> u16
+    requires { ⌜ j < 65535 ⌝ }
+    ensures { λ r. ⌜ r ≡ numberAt (now (image .entry)) (offset s k + j) ⌝ }
+{
+    let low = record_byte(image, s, k, j) as u16;
+    let high = record_byte(image, s, k, j + 1) as u16;
+    low + 256 * high
+}
+
+// The years of contraction record `k`; of records that have none, from 0 to 65,535, which is
+// always.
+pub fn years_of(image: &[u8], entries: Section, k: u16) -> Years
+    ensures { λ r. ⌜ YearsOf (now (image .entry)) entries k r ⌝ }
+{
+    if entries.size == 22 {
+        return Years {
+            first: record_number(image, entries, k, 18),
+            last: record_number(image, entries, k, 20),
+        };
+    }
+    Years {
+        first: 0,
+        last: 65535,
     }
 }

@@ -15,6 +15,7 @@ use crate::Found;
 use crate::Section;
 use crate::Sections;
 use crate::read::record_byte;
+use crate::read::years_of;
 
 // What the bytes of a part may be, where all of them go by one rule: classes up to a number, or the
 // letters of transitions, decisions and conditions.
@@ -224,9 +225,14 @@ fn entry_wrong(image: &[u8], s: Sections, letters: &[u16; 256], k: u16) -> Found
     if !((1 <= shift) & (shift <= len)) {
         return Found::At(13);
     }
-    match signs_wrong(image, contractions, k) {
-        Found::At(i) => Found::At(14 + i),
-        Found::Nothing => Found::Nothing,
+    if let Found::At(i) = signs_wrong(image, contractions, k) {
+        return Found::At(14 + i);
+    }
+    let years = years_of(image, contractions, k);
+    if years.first <= years.last {
+        Found::Nothing
+    } else {
+        Found::At(18)
     }
 }
 

@@ -13,9 +13,9 @@ use Rattle.table.specs.Numbers.{noContext, accepts, rejects, byteYes, byteNo, d
 use Rattle.table.specs.Search.{member}
 use Rattle.table.specs.Table.{Table, Entry, Column}
 use Rattle.table.proofs.Lists.{StandsIn, member-law}
-use Rattle.table.proofs.Tests.{Tells, clash, fails-law, tells-and, tells-or, tells-eq, every-law}
+use Rattle.table.proofs.Tests.{Tells, clash, fails-law, tells-and, tells-or, tells-eq, tells-within, every-law}
 use Rattle.translation.specs.Decide.{States, state, byteOfClass, conditionHolds, conditionsHold, Ruling, accept, reject, next, ruling, decided}
-use Rattle.translation.specs.Choose.{begins, classAfter, contextHolds, admissible}
+use Rattle.translation.specs.Choose.{begins, classAfter, contextHolds, inForce, admissible}
 use Rattle.translation.specs.Admissible.{
   ConditionMet,
   ConditionsMet,
@@ -145,13 +145,13 @@ module _ (states : States) (c : ℕ) where
 
 pub admissible-as-written : (table : Table) (setting : Setting) (states : States) (rest : List ℕ) (e : Entry)
     → (admissible table setting states rest e ≡ true) ↔ Admissible table setting states rest e
-unfolding admissible contextHolds classAfter
+unfolding admissible inForce contextHolds classAfter
 admissible-as-written table setting states rest e =
     Iff·trans
     (tells-and
-    (tells-and (begins-law (e .string) rest)
+    (tells-and (tells-and (begins-law (e .string) rest) (tells-within (e .first) (e .last) (setting .year)))
     (context-law (table .contexts) (e .context) (classAfter table setting rest (length (e .string)))))
     (decided-true states (e .class) (table .decisions), decided-of states (e .class))) (
-      λ h. record { after = h .0 .0 .after; begins = h .0 .0 .whole; context = h .0 .1; accepted = h .1 },
-      λ a. ((record { after = a .after; whole = a .begins }, a .context), a .accepted),
+      λ h. record { after = h .0 .0 .0 .after; begins = h .0 .0 .0 .whole; in-force = h .0 .0 .1; context = h .0 .1; accepted = h .1 },
+      λ a. (((record { after = a .after; whole = a .begins }, a .in-force), a .context), a .accepted),
     )

@@ -9,9 +9,9 @@ use native.Mathlib.Omega.{arith}
 use lib.ListN.{length, getD}
 use borrow.Author.Tests.{eq-eqb, ne-eqb}
 use Rattle.table.specs.Numbers.{lengthByte, stringByte, contextByte, signsByte, entrySigns, noContext, contextSize}
-use Rattle.table.specs.Search.{member}
+use Rattle.table.specs.Search.{within, member}
 use Rattle.table.specs.Records.{contractions, sectionNamed}
-use Rattle.table.specs.Sections.{recordByte}
+use Rattle.table.specs.Sections.{recordByte, firstYear, lastYear}
 use Rattle.table.specs.Promises.{partWithin}
 use Rattle.table.specs.Refusals.{RightEntry}
 use Rattle.table.specs.Table.{tableIn, entryAt}
@@ -19,7 +19,7 @@ use Rattle.table.specs.declared.Sections.{Sections}
 use Rattle.table.proofs.Reading.{contexts-long, part-long, part-within, part-at, entry-at, string-inside, signs-inside, context-within}
 use Rattle.table.proofs.Sound.{sound-entry}
 use Rattle.translation.specs.Decide.{States, decided}
-use Rattle.translation.specs.Choose.{begins, classAfter, contextHolds, admissible, noEntry, entry}
+use Rattle.translation.specs.Choose.{begins, classAfter, contextHolds, inForce, admissible, noEntry, entry}
 use Rattle.translation.specs.inside.Opened.{Opened}
 use Rattle.translation.specs.declared.Setting.{Setting}
 use Rattle.translation.proofs.Rests.{begins-differs}
@@ -77,15 +77,20 @@ module _ (image : List ℕ) (s : Sections) (opened : Opened image s) (k : ℕ) (
     abbrev string-begins : Bool
     string-begins = begins (entryAt image s k .string) rest
 
+    -- the year is one of those that are read
+    abbrev in-years : Bool
+    in-years = within (firstYear image (s .contractions) k) (lastYear image (s .contractions) k) (setting .year)
+
     pub not-begun : string-begins ≡ false → admissible (tableIn image s) setting states rest (entry (tableIn image s) k) ≡ false
     unfolding admissible
     not-begun e = rw (entry-at image s k noEntry there, e)
 
     pub begun : string-begins ≡ true
         → admissible (tableIn image s) setting states rest (entry (tableIn image s) k)
-        ≡ (contextHolds (tableIn image s) setting rest (entryAt image s k)
+        ≡ (in-years
+        && contextHolds (tableIn image s) setting rest (entryAt image s k)
         && decided (tableIn image s .decisions) states (entryAt image s k .class))
-    unfolding admissible
+    unfolding admissible inForce entryAt
     begun e = rw (entry-at image s k noEntry there, e)
 
     -- an entry whose first character is another than the rest's is passed over

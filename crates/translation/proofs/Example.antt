@@ -6,7 +6,7 @@ use mathlib.Core.List.{List, [], _∷_, map}
 use mathlib.Core.Option.{none, some}
 use mathlib.Core.Path.{_≡_, refl}
 use lib.ListN.{length}
-use Rattle.table.specs.Numbers.{blank}
+use Rattle.table.specs.Numbers.{blank, latestYear}
 use Rattle.table.specs.Table.{Table, Entry, Column}
 use Rattle.table.specs.Example.{table, ascii, anEntry, aColumn}
 use Rattle.translation.specs.Collapse.{collapsed}
@@ -16,7 +16,7 @@ use Rattle.translation.specs.inside.Computing.{computing}
 use Rattle.translation.specs.declared.Setting.{Setting}
 
 abbrev blankFollows : Setting
-blankFollows = record { following = blank }
+blankFollows = record { following = blank; year = latestYear }
 
 -- ---- The twelve
 
@@ -97,7 +97,7 @@ context-after-string = refl
 
 -- past the end of text stands the symbol that follows, and it is only looked at
 following-looked-at :
-    map (λ c. signs table (record { following = c }) "BLIND") (ascii " E.") ≡ (3 ∷ 7 ∷ [], 1) ∷ (3 ∷ 7 ∷ 10 ∷ 29 ∷ 25 ∷ [], 5) ∷ (3 ∷ 7 ∷ [], 1) ∷ []
+    map (λ c. signs table (record { following = c; year = 65535 }) "BLIND") (ascii " E.") ≡ (3 ∷ 7 ∷ [], 1) ∷ (3 ∷ 7 ∷ 10 ∷ 29 ∷ 25 ∷ [], 5) ∷ (3 ∷ 7 ∷ [], 1) ∷ []
 unfolding computing signs
 following-looked-at = refl
 

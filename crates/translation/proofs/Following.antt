@@ -39,31 +39,30 @@ pub following-never-consumed : (image text : List ℕ) → verdictOf image ≡ A
 unfolding piecesOf
 following-never-consumed image text accepted setting = consumed (tableOf image) setting (accepted-sound image accepted) (collapsed text)
 
-module _ (table : Table) (u v : Setting) where
-  -- ---- Where each right context holds alike, the pieces are the same
+-- ---- Where each entry is admissible alike, the pieces are the same
 
-  abbrev Alike : Type 0
-  Alike = (rest : List ℕ) (k : ℕ) → k < length (table .entries) → contextHolds table u rest (entry table k) ≡ contextHolds table v rest (entry table k)
+module _ (table : Table) (u v : Setting)
+    (alike : (states : States) (rest : List ℕ) (k : ℕ) → k < length (table .entries)
+    → admissible table u states rest (entry table k) ≡ admissible table v states rest (entry table k)) where
+  same-choice : (states : States) (rest : List ℕ) → choice table u states rest ≡ choice table v states rest
+  unfolding choice
+  same-choice states rest = first-same _ _ (length (table .entries)) (alike states rest)
 
-  module _ (alike : Alike) where
-    same-choice : (states : States) (rest : List ℕ) → choice table u states rest ≡ choice table v states rest
-    unfolding choice admissible
-    same-choice states rest = first-same _ _ (length (table .entries)) (λ k l. rw (alike rest k l))
+  same-front : (states : States) (rest : List ℕ) → frontPiece table u states rest ≡ frontPiece table v states rest
+  unfolding frontPiece
+  same-front states rest = ap (pieceBy table states rest) (same-choice states rest)
 
-    same-front : (states : States) (rest : List ℕ) → frontPiece table u states rest ≡ frontPiece table v states rest
-    unfolding frontPiece
-    same-front states rest = ap (pieceBy table states rest) (same-choice states rest)
+  same-from : (n : ℕ) (states : States) (rest : List ℕ) → piecesFrom table u n states rest ≡ piecesFrom table v n states rest
+  unfolding piecesFrom
+  same-from zero states rest = refl
+  same-from (suc n) states [] = refl
+  same-from (suc n) states (c ∷ rest) = rw (same-front states (c ∷ rest), same-from n)
 
-    same-from : (n : ℕ) (states : States) (rest : List ℕ) → piecesFrom table u n states rest ≡ piecesFrom table v n states rest
-    unfolding piecesFrom
-    same-from zero states rest = refl
-    same-from (suc n) states [] = refl
-    same-from (suc n) states (c ∷ rest) = rw (same-front states (c ∷ rest), same-from n)
+  pub same-pieces : (text : List ℕ) → piecesOf table u text ≡ piecesOf table v text
+  unfolding piecesOf piecesIn
+  same-pieces text = same-from (length (collapsed text)) (startStates table) (collapsed text)
 
-    same-pieces : (text : List ℕ) → piecesOf table u text ≡ piecesOf table v text
-    unfolding piecesOf piecesIn
-    same-pieces text = same-from (length (collapsed text)) (startStates table) (collapsed text)
-
+module _ (table : Table) (u v : Setting) (same-year : u .year ≡ v .year) where
   -- ---- Symbols of one class
 
   class-after : classOf (table .letters) (u .following) ≡ classOf (table .letters) (v .following) → (rest : List ℕ) (n : ℕ)
@@ -76,14 +75,14 @@ module _ (table : Table) (u v : Setting) where
   -- settings that differ only in the symbol, both of one class, give the same pieces
   pub same-class-same-pieces : classOf (table .letters) (u .following) ≡ classOf (table .letters) (v .following) → (text : List ℕ)
       → piecesOf table u text ≡ piecesOf table v text
-  unfolding contextHolds
-  same-class-same-pieces e = same-pieces (λ rest k l. rw (class-after e rest (length (entry table k .string))))
+  unfolding admissible contextHolds
+  same-class-same-pieces e = same-pieces table u v (λ states rest k l. rw (class-after e rest (length (entry table k .string)), same-year))
 
   -- ---- No right context
 
   pub no-context-same-pieces : NoContexts table → (text : List ℕ) → piecesOf table u text ≡ piecesOf table v text
-  unfolding contextHolds
-  no-context-same-pieces h = same-pieces (λ rest k l. rw (eq-eqb _ _ (h k l)))
+  unfolding admissible contextHolds
+  no-context-same-pieces h = same-pieces table u v (λ states rest k l. rw (eq-eqb _ _ (h k l), same-year))
 
 -- ---- The call: where the pieces are the same, so is what a text comes to, unless one of the symbols isn't in the alphabet
 

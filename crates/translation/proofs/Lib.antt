@@ -20,6 +20,8 @@ pub mod Fronts
 pub mod Cursor
 pub mod Outcomes
 pub mod Following
+pub mod Years
+pub mod Without
 pub mod Limits
 pub mod Promises
 pub mod Accepted

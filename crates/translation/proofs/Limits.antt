@@ -66,7 +66,7 @@ onlyBlank =
     }
 
 follows : ℕ → Setting
-follows c = record { following = c }
+follows c = record { following = c; year = 65535 }
 
 -- ---- The limits
 

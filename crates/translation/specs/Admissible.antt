@@ -1,5 +1,5 @@
--- 'An entry is admissible when', in the paper's words and with no test: the string begins the rest, the right context holds the class after the
--- string, the decision columns, read from the left, accept the class. proofs/Admissible.antt shows that the test `admissible` says the same.
+-- 'An entry is admissible when', in the paper's words and with no test: the string begins the rest, the year is one of the entry's, the right context holds
+-- the class after the string, the decision columns, read from the left, accept the class. proofs/Admissible.antt shows that the test `admissible` says the same.
 use Prim.Native.Nat.{ℕ, pred, _<_}
 use mathlib.Core.Bool.{Bool, true, false}
 use mathlib.Core.List.{List, [], _∷_, _++_}
@@ -7,6 +7,7 @@ use mathlib.Core.Logic.{_≢_}
 use mathlib.Core.Path.{_≡_}
 use lib.ListN.{length, getD}
 use Rattle.table.specs.Numbers.{noContext, accepts, rejects, byteYes, byteNo, dash}
+use Rattle.table.specs.Refusals.{Between}
 use Rattle.table.specs.Table.{Table, Entry, Column}
 use Rattle.translation.specs.Letters.{classOf}
 use Rattle.translation.specs.Decide.{States, state, byteOfClass}
@@ -56,6 +57,8 @@ pub record Admissible (table : Table) (setting : Setting) (states : States) (res
   -- its whole string begins that rest
   pub after : List ℕ
   pub begins : rest ≡ e .string ++ after
+  -- the year isn't outside its years: the first and the last are counted in
+  pub in-force : Between (e .first) (e .last) (setting .year)
   -- its right context is 0 or holds the class of the character after the whole string; past the end of text stands the symbol that follows
   pub context :
       ContextAllows (table .contexts) (e .context) (classOf (table .letters) (getD rest (length (e .string)) (setting .following)))

@@ -5,6 +5,7 @@ pub mod Letters
 pub mod Decide
 pub mod Choose
 pub mod Pieces
+pub mod Years
 pub mod Translate
 pub mod Handed
 pub mod Promises

@@ -6,8 +6,8 @@ ghost use mathlib.Core.Path.{_≡_};
 ghost use Prim.Native.Nat.{_+_, _≤_, _<_};
 ghost use lib.ListN.{length};
 ghost use Rattle.table.specs.Numbers.{entrySize, lengthByte, stringByte, leastLength, mostLength};
-ghost use Rattle.table.specs.Search.{member};
-ghost use Rattle.table.specs.Sections.{offset, recordByte, recordPart};
+ghost use Rattle.table.specs.Search.{within, member};
+ghost use Rattle.table.specs.Sections.{offset, recordByte, recordPart, firstYear, lastYear};
 ghost use Rattle.table.specs.Table.{tableIn, entryAt};
 ghost use Rattle.table.specs.inside.Found.{found};
 ghost use Rattle.table.specs.Refusals.{Between};
@@ -97,8 +97,16 @@ fn context_holds(image: &[u8], s: Sections, setting: Setting, k: u16, rest: &[u8
     )
 }
 
-// Whether entry `k` is admissible: its whole string begins the rest, its right context holds, and
-// the decision table accepts its class.
+// Whether entry `k` is in force in the year.
+fn in_force(image: &[u8], entries: Section, k: u16, year: u16) -> bool
+    ensures { λ r. ⌜ r ≡ within (firstYear (now (image .entry)) entries k) (lastYear (now (image .entry)) entries k) year ⌝ }
+{
+    let years = table::years_of(image, entries, k);
+    (years.first <= year) & (year <= years.last)
+}
+
+// Whether entry `k` is admissible: its whole string begins the rest, the year is one of its years,
+// its right context holds, and the decision table accepts its class.
 fn admits(image: &[u8], s: Sections, setting: Setting, states: States, k: u16, rest: &[u8]) -> bool
     requires { ⌜ Opened (now image) s ⌝ }
     requires { ⌜ k < s .contractions .records ⌝ }
@@ -107,6 +115,9 @@ fn admits(image: &[u8], s: Sections, setting: Setting, states: States, k: u16, r
 {
     let entries = s.contractions;
     if !begins(image, entries, k, rest) {
+        return false;
+    }
+    if !in_force(image, entries, k, setting.year) {
         return false;
     }
     if !context_holds(image, s, setting, k, rest) {

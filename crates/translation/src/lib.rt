@@ -15,9 +15,10 @@ use table::Verdict;
 pub use translating::translate;
 
 // What a translation is told besides the table and the text: the symbol that follows the end of the
-// text. It is looked at and never consumed.
+// text, which is looked at and never consumed, and the year by whose entries the text is printed.
 pub struct Setting {
     pub following: u8,
+    pub year: u16,
 }
 
 // On which terms a text is translated: its setting, and what the caller's own checks say, which

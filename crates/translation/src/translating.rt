@@ -98,8 +98,9 @@ fn translate_on(terms: Terms, image: &[u8], text: &[u8], signs: &mut [u8]) -> Tr
 
 // Translates a text by a table, on the caller's terms: the refusal, or how many pieces it has and
 // how many signs, which stand at the front of `signs`. What lies beyond them, and all of `signs`
-// where it is refused, is as it was. The terms say which symbol follows the text, and what the
-// caller's own checks say: they come after the table's and before the text's.
+// where it is refused, is as it was. The terms say which symbol follows the text, the year to
+// print by, and what the caller's own checks say: they come after the table's and before the
+// text's.
 pub fn translate(terms: Terms, image: &[u8], text: &[u8], signs: &mut [u8; 65536]) -> Translation
     ensures { λ r. ⌜ Translated terms (now (image .entry)) (now (text .entry)) (now (signs .entry)) r (now (signs .exit)) ⌝ }
 {

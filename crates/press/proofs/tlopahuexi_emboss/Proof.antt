@@ -22,8 +22,8 @@ emboss-requires c κs = search needs
 number-requires : tie.Need-number-requires
 number-requires c κs = search needs
 
-cast-t14 : tie.Need-cast-t14
-cast-t14 c = search needs
+cast-t15 : tie.Need-cast-t15
+cast-t15 c = search needs
 
 place-requires : tie.Need-place-requires
 place-requires c κs = search needs
@@ -62,7 +62,7 @@ tlopahuexi-emboss-spec =
     (tie.spec
     emboss-requires
     number-requires
-    cast-t14
+    cast-t15
     place-requires
     written-requires
     pieces-requires

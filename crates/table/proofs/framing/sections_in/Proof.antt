@@ -7,13 +7,14 @@ use mathlib.Core.List.{List}
 use mathlib.Core.Path.{_≡_}
 use native.Mathlib.Omega.{arith}
 use lib.ListN.{length}
-use Rattle.table.specs.Numbers.{letterSize, entrySize, contextSize}
+use Rattle.table.specs.Numbers.{letterSize, contextSize}
 use Rattle.table.specs.Sections.{
   byteAt,
   trailerAt,
   distance,
   classesIn,
   variablesIn,
+  entrySizeIn,
   trailerRight,
   distancesRight,
   sectionAt,
@@ -21,6 +22,7 @@ use Rattle.table.specs.Sections.{
   sectionsIn,
 }
 use Rattle.table.specs.declared.Section.{Section}
+use Rattle.table.proofs.Forms.{entry-long}
 use Rattle.table.proofs.Distances.{distances-fall, trailer-numbers}
 use Rattle.table.proofs.framing.sections_in.Statement.{statement}
 use Rattle.table.proofs.framing.sections_in.Tie as tie
@@ -65,6 +67,9 @@ distance-of-requires-4 c κs = search needs
 distance-of-requires-5 : tie.Need-distance-of-requires-5
 distance-of-requires-5 c κs = search needs
 
+entry-size-requires : tie.Need-entry-size-requires
+entry-size-requires c κs = search needs
+
 -- the distances once they are read
 record Read (image : List ℕ) (d₀ d₁ d₂ d₃ d₄ : ℕ) : Type 0 where
   room : d₀ < 65536
@@ -83,7 +88,7 @@ between image d e size = record { start = trailerAt image - d; size = size; reco
 
 record AllAsked (image : List ℕ) (d₀ d₁ d₂ d₃ d₄ : ℕ) : Type 0 where
   alphabet : Asked image d₀ d₁ letterSize
-  contractions : Asked image d₁ d₂ entrySize
+  contractions : Asked image d₁ d₂ (entrySizeIn image)
   contexts : Asked image d₂ d₃ contextSize
   transitions : Asked image d₃ d₄ (classesIn image)
   fits : classesIn image + variablesIn image < 65536
@@ -93,6 +98,7 @@ module _ {image : List ℕ} {d₀ d₁ d₂ d₃ d₄ : ℕ} (r : Read image d�
   asked : trailerRight image ≡ true → distancesRight image ≡ true → AllAsked image d₀ d₁ d₂ d₃ d₄
   asked t e =
       let n = trailer-numbers image t in
+      let long = entry-long image in
       let f = distances-fall image e in
       record {
         alphabet = omega arith;
@@ -105,7 +111,7 @@ module _ {image : List ℕ} {d₀ d₁ d₂ d₃ d₄ : ℕ} (r : Read image d�
 
   gathered : {s₀ s₁ s₂ s₃ s₄ : Section}
       → s₀ ≡ between image d₀ d₁ letterSize
-      → s₁ ≡ between image d₁ d₂ entrySize
+      → s₁ ≡ between image d₁ d₂ (entrySizeIn image)
       → s₂ ≡ between image d₂ d₃ contextSize
       → s₃ ≡ between image d₃ d₄ (classesIn image)
       → s₄ ≡ between image d₄ 0 (classesIn image + variablesIn image)
@@ -148,34 +154,34 @@ all-asked c =
 
 section-of-requires : tie.Need-section-of-requires
 unfolding trailerAt
-section-of-requires c κs = all-asked c .alphabet
+section-of-requires c κs = all-asked (c .before) .alphabet
 
 section-of-requires-2 : tie.Need-section-of-requires-2
 unfolding trailerAt
-section-of-requires-2 c κs = all-asked (c .before) .contractions
+section-of-requires-2 c κs = let size = c .before .entry-size .ensures in rw size (all-asked (c .before .before) .contractions)
 
 section-of-requires-3 : tie.Need-section-of-requires-3
 unfolding trailerAt
-section-of-requires-3 c κs = all-asked (c .before .before) .contexts
+section-of-requires-3 c κs = all-asked (c .before .before .before) .contexts
 
 section-of-requires-4 : tie.Need-section-of-requires-4
 unfolding classesIn trailerAt byteAt
-section-of-requires-4 c κs = all-asked (c .before .before .before) .transitions
+section-of-requires-4 c κs = all-asked (c .before .before .before .before) .transitions
 
 add-section-of : tie.Need-add-section-of
 unfolding classesIn variablesIn trailerAt byteAt
-add-section-of c = record { fits = all-asked (c .before .before .before .before) .fits }
+add-section-of c = record { fits = all-asked (c .before .before .before .before .before) .fits }
 
 section-of-requires-5 : tie.Need-section-of-requires-5
 unfolding classesIn variablesIn trailerAt byteAt
-section-of-requires-5 c κs = all-asked (c .before .before .before .before) .decisions
+section-of-requires-5 c κs = all-asked (c .before .before .before .before .before) .decisions
 
 returns : tie.Need-returns
 unfolding classesIn variablesIn trailerAt byteAt
 returns c =
-    gathered (read (c .before .before .before .before .before))
+    gathered (read (c .before .before .before .before .before .before))
     (c .before .before .before .before .section-of .ensures)
-    (c .before .before .before .section-of2 .ensures)
+    (rw (← c .before .before .before .before .before .entry-size .ensures) (c .before .before .before .section-of2 .ensures))
     (c .before .before .section-of3 .ensures)
     (c .before .section-of4 .ensures)
     (c .section-of5 .ensures)
@@ -196,6 +202,7 @@ sections-in-spec =
     distance-of-requires-3
     distance-of-requires-4
     distance-of-requires-5
+    entry-size-requires
     section-of-requires
     section-of-requires-2
     section-of-requires-3

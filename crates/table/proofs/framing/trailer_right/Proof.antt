@@ -1,7 +1,7 @@
 -- `table::framing::trailer_right` meets its contract: its tests are the definition's.
 use borrow.Author.Needs.{needs}
 use mathlib.Core.Path.{refl}
-use Rattle.table.specs.Sections.{trailerRight, byteAt, trailerAt, classesIn, variablesIn}
+use Rattle.table.specs.Sections.{trailerRight, byteAt, trailerAt, classesIn, variablesIn, isDated}
 use Rattle.table.proofs.framing.trailer_right.Statement.{statement}
 use Rattle.table.proofs.framing.trailer_right.Tie as tie
 
@@ -13,6 +13,12 @@ add-classes c = search needs
 
 shared-slice-read-classes : tie.Need-shared-slice-read-classes
 shared-slice-read-classes c = search needs
+
+add-mark : tie.Need-add-mark
+add-mark c = search needs
+
+shared-slice-read-mark : tie.Need-shared-slice-read-mark
+shared-slice-read-mark c = search needs
 
 add-result : tie.Need-add-result
 add-result c = search needs
@@ -26,14 +32,8 @@ add-result-2 c = search needs
 shared-slice-read-result-2 : tie.Need-shared-slice-read-result-2
 shared-slice-read-result-2 c = search needs
 
-add-result-3 : tie.Need-add-result-3
-add-result-3 c = search needs
-
-shared-slice-read-result-3 : tie.Need-shared-slice-read-result-3
-shared-slice-read-result-3 c = search needs
-
 returns : tie.Need-returns
-unfolding trailerRight byteAt trailerAt classesIn variablesIn
+unfolding trailerRight byteAt trailerAt classesIn variablesIn isDated
 returns c = refl
 
 pub trailer-right-spec : {M : Type 1} → statement M
@@ -43,10 +43,10 @@ trailer-right-spec =
     sub-at
     add-classes
     shared-slice-read-classes
+    add-mark
+    shared-slice-read-mark
     add-result
     shared-slice-read-result
     add-result-2
     shared-slice-read-result-2
-    add-result-3
-    shared-slice-read-result-3
     returns)

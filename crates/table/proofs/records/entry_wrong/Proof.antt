@@ -1,21 +1,21 @@
--- `table::records::entry_wrong` meets its contract: each way out is a test that fails after those before it passed, or the signs. A character is in the
--- alphabet where it has a number.
+-- `table::records::entry_wrong` meets its contract: each way out is a test that fails after those before it passed, and the last that all pass. A character
+-- is in the alphabet where it has a number.
 use borrow.Author.Needs.{needs}
-use borrow.Author.Tests.{not-true, not-false}
+use borrow.Author.Tests.{not-true, not-false, le-leb, lt-leb}
 use Prim.Native.Nat.{ℕ, _+_}
 use mathlib.Core.Bool.{true, false, not}
 use mathlib.Core.Option.{none}
 use mathlib.Core.Path.{_≡_, sym, _∙_, ap}
 use native.Mathlib.Omega.{arith}
-use Rattle.table.specs.Numbers.{stringByte, signsByte, entrySigns, mostLength}
+use Rattle.table.specs.Numbers.{stringByte, entrySigns, mostLength}
 use Rattle.table.specs.Search.{first}
 use Rattle.table.specs.Sections.{byteAt, offset, recordByte}
-use Rattle.table.specs.Records.{symbols, rightClass, rightStringByte, entryRule, wrongByte}
+use Rattle.table.specs.Records.{symbols, rightClass, rightStringByte}
 use Rattle.table.specs.inside.Found.{found}
-use Rattle.table.specs.declared.Found.the-variants.{At, Nothing}
+use Rattle.table.specs.declared.Found.the-variants.{At}
 use Rattle.table.proofs.Search.{first-same, first-found, found-at, found-nothing}
 use Rattle.table.proofs.LetterNumbers.{character-tests}
-use Rattle.table.proofs.RuleTests.{past, lengthTest, stringWrong, contextTest, classTest, shiftTest, signsWrong, length-wrong, string-wrong, context-byte-wrong, class-byte-wrong, shift-byte-wrong, signs-beyond}
+use Rattle.table.proofs.RuleTests.{lengthTest, stringWrong, contextTest, classTest, shiftTest, signsWrong, yearsTest, length-wrong, string-wrong, StringRight, context-byte-wrong, class-byte-wrong, shift-byte-wrong, ShiftRight, sign-byte-wrong, years-wrong, entry-passes}
 use Rattle.table.proofs.records.entry_wrong.Statement.{statement}
 use Rattle.table.proofs.records.entry_wrong.Tie as tie
 
@@ -57,8 +57,8 @@ string-judged c =
     (character-tests image s (char i) (a .letters .now) (start .pre) (len .result) i (known .given (offset (s .contractions) (a .k) + (stringByte + i)) .fits)))
     ∙ ap (λ (n : ℕ). first (λ i. not (rightStringByte (symbols image s) n i (char i))) mostLength) (len .ensures .is))
 
-add-t15 : tie.Need-add-t15
-add-t15 c =
+add-t16 : tie.Need-add-t16
+add-t16 c =
     let a = c .before .before .before .before .before .before .before .before .args in
     let i = c .before .i .given .0 .0 in
     let told : found (stringWrong (a .image .now) (a .s) (a .k)) ≡ At i = sym (string-judged (c .before .before .before)) ∙ c .before .i .given .1 in
@@ -75,10 +75,13 @@ returns-2 c =
 enum-told : tie.Need-enum-told
 enum-told c = search needs
 
-string-passed : (c : tie.After-enum-told) → (let a = c .before .before .before .before .before .before .before .args in stringWrong (a .image .now) (a .s) (a .k) ≡ none)
+string-passed : (c : tie.After-enum-told) → (let a = c .before .before .before .before .before .before .before .args in StringRight (a .image .now) (a .s) (a .k))
 string-passed c =
     let a = c .before .before .before .before .before .before .before .args in
-    found-nothing (stringWrong (a .image .now) (a .s) (a .k)) (sym (string-judged (c .before .before)) ∙ c .enum-told .given .1)
+    record {
+      length-passes = length-passed (c .before .before .before);
+      string-passes = found-nothing (stringWrong (a .image .now) (a .s) (a .k)) (sym (string-judged (c .before .before)) ∙ c .enum-told .given .1);
+    }
 
 record-byte-requires-2 : tie.Need-record-byte-requires-2
 record-byte-requires-2 c κs = search needs
@@ -96,7 +99,7 @@ returns-3 c =
     let a = c .before .before .before .before .before .before .before .before .before .before .args in
     sym
     (ap found
-    (context-byte-wrong (a .image .now) (a .s) (a .k) (length-passed (c .before .before .before .before .before .before)) (string-passed (c .before .before .before)) (context-judged (c .before) ∙ not-true _ (c .if2 .taken))))
+    (context-byte-wrong (a .image .now) (a .s) (a .k) (string-passed (c .before .before .before)) (context-judged (c .before) ∙ not-true _ (c .if2 .taken))))
 
 context-passed : (c : tie.Else2) → (let a = c .before .before .before .before .before .before .before .before .before .before .args in contextTest (a .image .now) (a .s) (a .k) ≡ true)
 context-passed c = context-judged (c .before) ∙ not-false _ (c .if2 .left)
@@ -117,7 +120,7 @@ returns-4 c =
     let a = c .before .before .before .before .before .before .before .before .before .before .before .before .before .args in
     sym
     (ap found
-    (class-byte-wrong (a .image .now) (a .s) (a .k) (length-passed (c .before .before .before .before .before .before .before .before .before)) (string-passed (c .before .before .before .before .before .before)) (context-passed (c .before .before .before))
+    (class-byte-wrong (a .image .now) (a .s) (a .k) (string-passed (c .before .before .before .before .before .before)) (context-passed (c .before .before .before))
     (class-judged (c .before) ∙ not-true _ (c .if3 .taken))))
 
 class-passed : (c : tie.Else3) → (let a = c .before .before .before .before .before .before .before .before .before .before .before .before .before .args in classTest (a .image .now) (a .s) (a .k) ≡ true)
@@ -134,10 +137,16 @@ returns-5 c =
     rw (← (c .before .record-byte4 .ensures .is), ← (c .before .before .before .before .before .before .before .before .before .before .before .before .record-byte .ensures .is)) (not-true _ (c .if4 .taken)) in
     sym
     (ap found
-    (shift-byte-wrong (a .image .now) (a .s) (a .k) (length-passed (c .before .before .before .before .before .before .before .before .before .before .before)) (string-passed (c .before .before .before .before .before .before .before .before)) (context-passed (c .before .before .before .before .before)) (class-passed (c .before .before)) fails))
+    (shift-byte-wrong (a .image .now) (a .s) (a .k) (string-passed (c .before .before .before .before .before .before .before .before)) (context-passed (c .before .before .before .before .before)) (class-passed (c .before .before)) fails))
 
-shift-passed : (c : tie.Else4) → (let a = c .before .before .before .before .before .before .before .before .before .before .before .before .before .before .before .args in shiftTest (a .image .now) (a .s) (a .k) ≡ true)
-shift-passed c = rw (← (c .before .record-byte4 .ensures .is), ← (c .before .before .before .before .before .before .before .before .before .before .before .before .record-byte .ensures .is)) (not-false _ (c .if4 .left))
+shift-passed : (c : tie.Else4) → (let a = c .before .before .before .before .before .before .before .before .before .before .before .before .before .before .before .args in ShiftRight (a .image .now) (a .s) (a .k))
+shift-passed c =
+    record {
+      string-right = string-passed (c .before .before .before .before .before .before .before .before);
+      context-passes = context-passed (c .before .before .before .before .before);
+      class-passes = class-passed (c .before .before);
+      shift-passes = rw (← (c .before .record-byte4 .ensures .is), ← (c .before .before .before .before .before .before .before .before .before .before .before .before .record-byte .ensures .is)) (not-false _ (c .if4 .left));
+    }
 
 signs-wrong-requires : tie.Need-signs-wrong-requires
 signs-wrong-requires c κs = search needs
@@ -154,27 +163,38 @@ add-t19 c =
     let f = first-found _ 0 entrySigns i (found-at (signsWrong (a .image .now) (a .s) (a .k)) i told) in
     omega (arith, f .high)
 
-enum-told-2 : tie.Need-enum-told-2
-enum-told-2 c = search needs
-
--- all but the signs are right
-signs-next : (c : tie.Else4) → (let a = c .before .before .before .before .before .before .before .before .before .before .before .before .before .before .before .args in wrongByte (entryRule (a .image .now) (a .s) (a .k)) ≡ past signsByte (signsWrong (a .image .now) (a .s) (a .k)))
-signs-next c =
-    let a = c .before .before .before .before .before .before .before .before .before .before .before .before .before .before .before .args in
-    signs-beyond (a .image .now) (a .s) (a .k) (length-passed (c .before .before .before .before .before .before .before .before .before .before .before)) (string-passed (c .before .before .before .before .before .before .before .before)) (context-passed (c .before .before .before .before .before)) (class-passed (c .before .before)) (shift-passed c)
-
 returns-6 : tie.Need-returns-6
 returns-6 c =
     let a = c .before .before .before .before .before .before .before .before .before .before .before .before .before .before .before .before .before .before .before .args in
     let i = c .before .i2 .given .0 .0 in
     let told : found (signsWrong (a .image .now) (a .s) (a .k)) ≡ At i = sym (c .before .before .before .signs-wrong .ensures) ∙ c .before .i2 .given .1 in
-    sym (ap found (signs-next (c .before .before .before .before) ∙ ap (past signsByte) (found-at (signsWrong (a .image .now) (a .s) (a .k)) i told)))
+    sym (ap found (sign-byte-wrong (a .image .now) (a .s) (a .k) i (shift-passed (c .before .before .before .before)) (found-at (signsWrong (a .image .now) (a .s) (a .k)) i told)))
 
+enum-told-2 : tie.Need-enum-told-2
+enum-told-2 c = search needs
+
+signs-passed : (c : tie.After-enum-told2) → (let a = c .before .before .before .before .before .before .before .before .before .before .before .before .before .before .before .before .before .before .args in signsWrong (a .image .now) (a .s) (a .k) ≡ none)
+signs-passed c =
+    let a = c .before .before .before .before .before .before .before .before .before .before .before .before .before .before .before .before .before .before .args in
+    found-nothing (signsWrong (a .image .now) (a .s) (a .k)) (sym (c .before .before .signs-wrong .ensures) ∙ c .enum-told2 .given .1)
+
+years-of-requires : tie.Need-years-of-requires
+years-of-requires c κs = search needs
+
+-- the years
 returns-7 : tie.Need-returns-7
 returns-7 c =
-    let a = c .before .before .before .before .before .before .before .before .before .before .before .before .before .before .before .before .before .before .args in
-    let told : found (signsWrong (a .image .now) (a .s) (a .k)) ≡ Nothing = sym (c .before .before .signs-wrong .ensures) ∙ c .enum-told2 .given .1 in
-    sym (ap found (signs-next (c .before .before .before) ∙ ap (past signsByte) (found-nothing (signsWrong (a .image .now) (a .s) (a .k)) told)))
+    let a = c .before .before .before .before .before .before .before .before .before .before .before .before .before .before .before .before .before .before .before .before .before .args in
+    let years = c .before .before .years-of .ensures in
+    let passes : yearsTest (a .image .now) (a .s) (a .k) ≡ true = rw (← (years .first-is), ← (years .last-is)) (le-leb _ _ (c .if5 .taken)) in
+    sym (ap found (entry-passes (a .image .now) (a .s) (a .k) (shift-passed (c .before .before .before .before .before .before)) (signs-passed (c .before .before .before)) passes))
+
+returns-8 : tie.Need-returns-8
+returns-8 c =
+    let a = c .before .before .before .before .before .before .before .before .before .before .before .before .before .before .before .before .before .before .before .before .before .args in
+    let years = c .before .before .years-of .ensures in
+    let fails : yearsTest (a .image .now) (a .s) (a .k) ≡ false = rw (← (years .first-is), ← (years .last-is)) (lt-leb _ _ (c .if5 .left)) in
+    sym (ap found (years-wrong (a .image .now) (a .s) (a .k) (shift-passed (c .before .before .before .before .before .before)) (signs-passed (c .before .before .before)) fails))
 
 pub entry-wrong-spec : {M : Type 1} → statement M
 entry-wrong-spec =
@@ -184,7 +204,7 @@ entry-wrong-spec =
     returns
     string-wrong-requires
     enum-known-i
-    add-t15
+    add-t16
     returns-2
     enum-told
     record-byte-requires-2
@@ -198,6 +218,8 @@ entry-wrong-spec =
     signs-wrong-requires
     enum-known-i-2
     add-t19
-    enum-told-2
     returns-6
-    returns-7)
+    enum-told-2
+    years-of-requires
+    returns-7
+    returns-8)

@@ -1,9 +1,10 @@
--- `translation::choosing::admits` meets its contract: the string first, then the right context, and then the decision table.
+-- `translation::choosing::admits` meets its contract: the string first, then the years, the right context, and the decision table.
 use borrow.Author.Needs.{needs}
 use borrow.Author.Tests.{not-true, not-false}
 use mathlib.Core.Path.{sym, _∙_}
 use Rattle.table.specs.Records.{contractions, sectionNamed}
 use Rattle.table.specs.Table.{entryAt}
+use Rattle.table.proofs.Reading.{entry-inside}
 use Rattle.translation.specs.inside.States.{statesIn}
 use Rattle.translation.proofs.Entries.{not-begun, begun}
 use Rattle.translation.proofs.choosing.admits.Statement.{statement}
@@ -14,7 +15,7 @@ unfolding sectionNamed
 begins-requires c κs =
     let start = c .before .before .before in
     let k = start .args .k in
-    (start .pre .0 .laid .contractions-laid .lies k (start .pre .1), start .pre .0 .right contractions k (start .pre .1) .length-right)
+    (entry-inside (start .args .image .now) (start .args .s) (start .pre .0 .laid) (start .pre .0 .right) k (start .pre .1), start .pre .0 .right contractions k (start .pre .1) .length-right)
 
 returns : tie.Need-returns
 unfolding entryAt
@@ -26,8 +27,8 @@ returns c =
     (not-begun (a .image .now) (a .s) (start .pre .0) (a .k) (start .pre .1) (a .setting) (statesIn (a .s) (a .states)) (a .rest .now)
     (sym (begins .ensures) ∙ not-true (begins .result) (c .if1 .taken)))
 
-context-holds-requires : tie.Need-context-holds-requires
-context-holds-requires c κs = search needs
+in-force-requires : tie.Need-in-force-requires
+in-force-requires c κs = search needs
 
 returns-2 : tie.Need-returns-2
 unfolding entryAt
@@ -35,17 +36,14 @@ returns-2 c =
     let start = c .before .before .before .before .before .before .before in
     let a = start .args in
     let begins = c .before .before .before .begins in
-    let held = c .before .context-holds in
+    let in-years = c .before .in-force in
     sym
     (begun (a .image .now) (a .s) (start .pre .0) (a .k) (start .pre .1) (a .setting) (statesIn (a .s) (a .states)) (a .rest .now)
     (sym (begins .ensures) ∙ not-false (begins .result) (c .before .before .if1 .left))
-    ∙ rw (← (held .ensures), not-true (held .result) (c .if2 .taken)))
+    ∙ rw (← (in-years .ensures), not-true (in-years .result) (c .if2 .taken)))
 
-record-byte-requires : tie.Need-record-byte-requires
-record-byte-requires c κs = search needs
-
-decide-requires : tie.Need-decide-requires
-decide-requires c κs = search needs
+context-holds-requires : tie.Need-context-holds-requires
+context-holds-requires c κs = search needs
 
 returns-3 : tie.Need-returns-3
 unfolding entryAt
@@ -53,12 +51,39 @@ returns-3 c =
     let start = c .before .before .before .before .before .before .before .before .before in
     let a = start .args in
     let begins = c .before .before .before .before .before .begins in
+    let in-years = c .before .before .before .in-force in
+    let held = c .before .context-holds in
+    sym
+    (begun (a .image .now) (a .s) (start .pre .0) (a .k) (start .pre .1) (a .setting) (statesIn (a .s) (a .states)) (a .rest .now)
+    (sym (begins .ensures) ∙ not-false (begins .result) (c .before .before .before .before .if1 .left))
+    ∙ rw (
+      ← (in-years .ensures),
+      not-false (in-years .result) (c .before .before .if2 .left),
+      ← (held .ensures),
+      not-true (held .result) (c .if3 .taken),
+    ))
+
+record-byte-requires : tie.Need-record-byte-requires
+record-byte-requires c κs = search needs
+
+decide-requires : tie.Need-decide-requires
+decide-requires c κs = search needs
+
+returns-4 : tie.Need-returns-4
+unfolding entryAt
+returns-4 c =
+    let start = c .before .before .before .before .before .before .before .before .before .before .before in
+    let a = start .args in
+    let begins = c .before .before .before .before .before .before .before .begins in
+    let in-years = c .before .before .before .before .before .in-force in
     let held = c .before .before .before .context-holds in
     rw (
       begun (a .image .now) (a .s) (start .pre .0) (a .k) (start .pre .1) (a .setting) (statesIn (a .s) (a .states)) (a .rest .now)
-          (sym (begins .ensures) ∙ not-false (begins .result) (c .before .before .before .before .if1 .left)),
+          (sym (begins .ensures) ∙ not-false (begins .result) (c .before .before .before .before .before .before .if1 .left)),
+      ← (in-years .ensures),
+      not-false (in-years .result) (c .before .before .before .before .if2 .left),
       ← (held .ensures),
-      not-false (held .result) (c .before .before .if2 .left),
+      not-false (held .result) (c .before .before .if3 .left),
       ← (c .before .record-byte .ensures .is),
     )
     (c .decide .ensures)
@@ -69,8 +94,10 @@ admits-spec =
     (tie.spec
     begins-requires
     returns
-    context-holds-requires
+    in-force-requires
     returns-2
+    context-holds-requires
+    returns-3
     record-byte-requires
     decide-requires
-    returns-3)
+    returns-4)

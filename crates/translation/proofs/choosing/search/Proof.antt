@@ -14,7 +14,7 @@ use Rattle.table.specs.Sections.{byteAt, offset, recordByte}
 use Rattle.table.specs.Table.{tableIn}
 use Rattle.table.specs.inside.Found.{found}
 use Rattle.table.specs.declared.Sections.{Sections}
-use Rattle.table.proofs.Reading.{entries-long}
+use Rattle.table.proofs.Reading.{entries-long, entry-inside}
 use Rattle.table.proofs.Search.{found-first, found-none}
 use Rattle.translation.specs.Decide.{States}
 use Rattle.translation.specs.Choose.{admissible, entry, choice}
@@ -54,7 +54,7 @@ shared-slice-read-if1 : tie.Need-shared-slice-read-if1 Inv-loop μ-loop
 shared-slice-read-if1 c =
     let start = c .before .before .before .before .before .before .before .before .before in
     let l = c .before .before .loop in
-    let lies = start .pre .0 .laid .contractions-laid .lies (l .k) (search needs) in
+    let lies = entry-inside (start .args .image .now) (start .args .s) (start .pre .0 .laid) (start .pre .0 .right) (l .k) (search needs) in
     let at-is = l .inv .1 in
     omega arith
 

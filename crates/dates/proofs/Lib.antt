@@ -1,0 +1,15 @@
+pub mod Promises
+pub mod Blocks
+pub mod Placed
+pub mod Parts
+pub mod Puts
+pub mod Room
+pub mod Outcomes
+pub mod Same
+pub mod Kept
+pub mod Movers
+pub mod Back
+pub mod Refusals
+pub mod Calls
+pub mod Example
+pub mod Alike

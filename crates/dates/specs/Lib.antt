@@ -1,0 +1,5 @@
+pub mod Forms
+pub mod Moving
+pub mod Refusals
+pub mod Promises
+pub mod inside
