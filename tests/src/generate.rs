@@ -1,11 +1,12 @@
 //! Random cases from a seed: sound tables and damaged ones, of both forms, years at every edge of
 //! their entries', texts dense in the table's own strings, words about as wide as a line or as
 //! some, symbols that follow the texts, widths and page lengths across and beyond their limits,
-//! tables to be moved from one form to the other, output rooms around what is needed. The same seed
-//! gives the same case on every machine. Most cases are small; a few reach every limit.
+//! tables to be moved from one form to the other, tables to be stamped, output rooms around what is
+//! needed. The same seed gives the same case on every machine. Most cases are small; a few reach
+//! every limit.
 
 use crate::counts::Notes;
-use crate::reference::{emboss_planted, move_table, Answer, Asked, Planted, Way};
+use crate::reference::{emboss_planted, move_table, stamp, Answer, Asked, Planted, Way};
 use crate::table::{Entry, Table, ALWAYS};
 
 /// The limits that the byte form of a case sets.
@@ -16,19 +17,20 @@ pub const LARGEST_ROOM: usize = 163_840;
 /// Tables of this many entries and more have an alphabet of more than the blank and the period.
 const MANY_ENTRIES: usize = 41;
 
-/// What is asked: the whole call, or to move the table from one form to the other. A mover doesn't
-/// look at text, following symbol, year and sizes.
+/// What is asked: the whole call, to move the table from one form to the other, or its stamp. All
+/// but the whole call don't look at text, following symbol, year and sizes; a stamp has no output.
 #[derive(Clone, Copy, Debug, PartialEq, Eq)]
 pub enum Question {
     Emboss = 0,
     Date = 1,
     Undate = 2,
+    Stamp = 3,
 }
 
 impl Question {
     /// The question of a number in the byte form of a case.
     pub fn of(number: usize) -> Option<Question> {
-        [Question::Emboss, Question::Date, Question::Undate].get(number).copied()
+        [Question::Emboss, Question::Date, Question::Undate, Question::Stamp].get(number).copied()
     }
 }
 
@@ -58,6 +60,7 @@ impl Case {
             }
             Question::Date => move_table(planted, Way::Date, image, out, notes),
             Question::Undate => move_table(planted, Way::Undate, image, out, notes),
+            Question::Stamp => stamp(planted, image, notes),
         }
     }
 }
@@ -111,6 +114,7 @@ counted! {
         AskedEmboss: "the whole call asked",
         AskedDate: "tables to be moved to the dated form",
         AskedUndate: "tables to be moved back to the old form",
+        AskedStamp: "tables to be stamped",
         OldForm: "tables of the old form",
         DatedMixed: "tables of the dated form, entries with years and without",
         DatedAlways: "tables of the dated form whose entries are all always in force",
@@ -191,6 +195,8 @@ counted! {
         UndateExact: "rooms of the bytes needed for the old form",
         UndateOneMore: "rooms longer by one byte for the old form",
         UndateAmple: "rooms longer by two bytes and more for the old form",
+        StampNone: "rooms of no byte beside a stamp",
+        StampSome: "rooms beside a stamp, to be left as lent",
     }
 }
 
@@ -209,7 +215,8 @@ pub fn case(seed: u64) -> Case {
     } else {
         let mut table = sound_table(random, form);
         // Equal strings may repeat.
-        if question != Question::Emboss && !table.entries.is_empty() && random.once_in(40) {
+        let seldom = if question == Question::Stamp { 12 } else { 40 };
+        if question != Question::Emboss && !table.entries.is_empty() && random.once_in(seldom) {
             table.entries.resize(1199, table.entries[table.entries.len() - 1].clone());
         }
         let year = year(random, &table, &mut kinds);
@@ -254,9 +261,10 @@ pub fn case(seed: u64) -> Case {
 /// What is asked: mostly the whole call.
 fn question(random: &mut Random, kinds: &mut Vec<Kind>) -> Question {
     let (kind, question) = match random.between(0, 99) {
-        0..=89 => (Kind::AskedEmboss, Question::Emboss),
-        90..=94 => (Kind::AskedDate, Question::Date),
-        _ => (Kind::AskedUndate, Question::Undate),
+        0..=86 => (Kind::AskedEmboss, Question::Emboss),
+        87..=91 => (Kind::AskedDate, Question::Date),
+        92..=96 => (Kind::AskedUndate, Question::Undate),
+        _ => (Kind::AskedStamp, Question::Stamp),
     };
     kinds.push(kind);
     question
@@ -277,10 +285,10 @@ enum Form {
 /// without years or with few.
 fn form(random: &mut Random, question: Question) -> Form {
     match (question, random.between(0, 19)) {
-        (Question::Emboss, 0..=8) => Form::Old,
-        (Question::Emboss, 9..=17) => Form::Mixed,
-        (Question::Emboss, 18) => Form::Always,
-        (Question::Emboss, _) => Form::One,
+        (Question::Emboss | Question::Stamp, 0..=8) => Form::Old,
+        (Question::Emboss | Question::Stamp, 9..=17) => Form::Mixed,
+        (Question::Emboss | Question::Stamp, 18) => Form::Always,
+        (Question::Emboss | Question::Stamp, _) => Form::One,
         (Question::Date, 0..=16) => Form::Old,
         (Question::Date, 17) => Form::Mixed,
         (Question::Date, _) => Form::Always,
@@ -1059,6 +1067,11 @@ fn beyond(random: &mut Random, near: &[u64], low: usize, high: usize) -> u64 {
 }
 
 fn room(random: &mut Random, case: &mut Case) -> usize {
+    if case.question == Question::Stamp {
+        let room = random.any(&[0, 1, 40, 200]);
+        case.kinds.push(if room == 0 { Kind::StampNone } else { Kind::StampSome });
+        return room;
+    }
     let without_room = case.answer(Planted::Nothing, &mut [], &mut Notes::new());
     let (question, kinds) = (case.question, &mut case.kinds);
     let needed = match without_room.number {
@@ -1068,7 +1081,7 @@ fn room(random: &mut Random, case: &mut Case) -> usize {
             kinds.push(match question {
                 Question::Emboss => Kind::RoomNotAsked,
                 Question::Date => Kind::DateNotAsked,
-                Question::Undate => Kind::UndateNotAsked,
+                _ => Kind::UndateNotAsked,
             });
             return if question == Question::Emboss {
                 random.any(&[0, 1, 40, 200])

@@ -20,7 +20,7 @@ use reference::{Answer, Planted};
 use std::io::{Read, Write};
 use std::process::{exit, Command, Stdio};
 
-const USAGE: &str = "compare --seed S --cases N --program WORD [--program WORD ...] [--planted 1..19] [--batch N] [--all-counts]
+const USAGE: &str = "compare --seed S --cases N --program WORD [--program WORD ...] [--planted 1..21] [--batch N] [--all-counts]
 compare case SEED
 compare table FILE IMAGE
 compare vectors FOLDER --program WORD [--program WORD ...]
@@ -93,6 +93,8 @@ impl Settings {
                         "17" => Planted::GroupingInForce,
                         "18" => Planted::YearsHighFirst,
                         "19" => Planted::IndexAsPlace,
+                        "20" => Planted::SecondByOldFirst,
+                        "21" => Planted::RefusedStamped,
                         _ => return Err(USAGE.to_string()),
                     }
                 }
@@ -263,10 +265,11 @@ pub fn run_program<T>(
 
 /// What can be asked, in which words, and the numbers of its answers in the order in which they are
 /// met.
-const NUMBERS: [(Question, &str, &[u8]); 3] = [
+const NUMBERS: [(Question, &str, &[u8]); 4] = [
     (Question::Emboss, "answer", &[0, 1, 2, 11, 12, 13, 14, 3, 4, 5, 6, 7, 15, 8]),
     (Question::Date, "dating: answer", &[0, 1, 2, 11, 12, 13, 14, 3, 4, 8]),
     (Question::Undate, "moving back: answer", &[0, 1, 2, 11, 12, 13, 14, 3, 4, 17, 8]),
+    (Question::Stamp, "stamp: answer", &[0, 1, 2, 11, 12, 13, 14, 3, 4]),
 ];
 
 struct Counts {
@@ -384,7 +387,9 @@ fn show(seed: &str) -> Result<(), String> {
     println!("text, {} bytes: {:?}", case.text.len(), String::from_utf8_lossy(&case.text));
     println!("following {} {:?}", case.following, case.following as char);
     println!("{answer:?}");
-    println!("{:?}", &buffer[..answer.written as usize]);
+    if case.question != Question::Stamp {
+        println!("{:?}", &buffer[..answer.written as usize]);
+    }
     Ok(())
 }
 

@@ -2,7 +2,7 @@
 //! what a request of document 02 changes, by the same table.
 
 use crate::counts::Notes;
-use crate::reference::{emboss, emboss_planted, move_table, Answer, Asked, Planted, Way};
+use crate::reference::{emboss, emboss_planted, move_table, second_in_full, stamp, Answer, Asked, Planted, Way};
 use crate::table;
 
 /// The paper's table has the old form, so it doesn't care about the year.
@@ -772,4 +772,67 @@ fn errors_of_the_years() {
     let mut ask = |planted| move_table(planted, Way::Undate, &image, &mut out, &mut Notes::new());
     assert_eq!(ask(Planted::Nothing), refused(17, 189));
     assert_eq!(ask(Planted::IndexAsPlace), refused(17, 6));
+}
+
+/// A stamp: its number, place and two numbers.
+fn stamped(planted: Planted, image: &[u8]) -> (u8, u64, u64, u64) {
+    let answer = stamp(planted, image, &mut Notes::new());
+    assert_eq!((answer.lines, answer.pages), (0, 0));
+    (answer.number, answer.place, answer.written, answer.pieces)
+}
+
+/// Request 14 of document 02: the stamps of the paper's table and of the same with COM dated, by the
+/// definition and by the weights of the bytes; refused images have 0 and 0.
+#[test]
+fn stamps() {
+    for (image, stamp) in [(image(), (0, 0, 6_973, 708_472)), (dated_image(), (0, 0, 10_467, 1_160_156))] {
+        assert_eq!(stamped(Planted::Nothing, &image), stamp);
+        assert_eq!(image.iter().map(|byte| u64::from(*byte)).sum::<u64>(), stamp.2);
+        assert_eq!(second_in_full(&image), stamp.3);
+    }
+    for image in [&image()[..217], &image()[..13], &[]] {
+        assert_eq!(stamped(Planted::Nothing, image), (1, 0, 0, 0));
+    }
+    assert_eq!(stamped(Planted::Nothing, &damaged(&[(4, 0)])), (2, 4, 0, 0));
+    assert_eq!(stamped(Planted::Nothing, &damaged(&[(0, 33)])), (3, 0, 0, 0));
+    assert_eq!(stamped(Planted::Nothing, &damaged(&[(130, 67)])), (4, 129, 0, 0));
+}
+
+/// Of the images that are accepted, one with a byte changed has another first number, and one with
+/// two unequal neighbours exchanged the same first and another second. One more, two less and one
+/// more, three bytes apart, cancel: A, B and C with the signs 2, 1 and 10.
+#[test]
+fn what_a_stamp_shows() {
+    let right = image();
+    let (_, _, first, second) = stamped(Planted::Nothing, &right);
+    let (mut changed, mut exchanged) = (0, 0);
+    for at in 0..right.len() {
+        for byte in 0..=255 {
+            let image = damaged(&[(at, byte)]);
+            let (number, _, f, s) = stamped(Planted::Nothing, &image);
+            if number == 0 && image != right {
+                changed += 1;
+                assert!(f != first && s != second, "{byte} at {at}");
+            }
+        }
+        if at + 1 < right.len() && right[at] != right[at + 1] {
+            let image = damaged(&[(at, right[at + 1]), (at + 1, right[at])]);
+            let (number, _, f, s) = stamped(Planted::Nothing, &image);
+            if number == 0 {
+                exchanged += 1;
+                assert!(f == first && s != second, "exchanged at {at}");
+            }
+        }
+    }
+    assert!(changed > 1000 && exchanged > 10, "{changed} {exchanged}");
+    let cancelled = damaged(&[(14, 2), (17, 1), (20, 10)]);
+    assert_eq!(stamped(Planted::Nothing, &cancelled), (0, 0, first, second));
+}
+
+/// The errors that request 14 of document 02 invites.
+#[test]
+fn errors_of_the_stamp() {
+    assert_eq!(stamped(Planted::SecondByOldFirst, &image()), (0, 0, 6_973, 708_472 - 6_973));
+    assert_eq!(stamped(Planted::RefusedStamped, &image()), (0, 0, 6_973, 708_472));
+    assert_eq!(stamped(Planted::RefusedStamped, &damaged(&[(4, 0)])), (2, 4, 6_970, 708_472 - 3 * 214));
 }

@@ -7,7 +7,8 @@
 
 use crate::counts::{Event, Notes};
 
-/// The answer holds number, place, bytes written, pieces, lines (64s), pages (65s).
+/// The answer holds number, place, bytes written, pieces, lines (64s), pages (65s). That of a stamp has its two
+/// numbers in the place of bytes written and pieces.
 #[derive(Clone, Copy, Debug, Default, PartialEq, Eq)]
 pub struct Answer {
     pub number: u8,
@@ -82,6 +83,10 @@ pub enum Planted {
     YearsHighFirst,
     /// Request 6: 17 at the record's index.
     IndexAsPlace,
+    /// Request 14: the second grows by the old first.
+    SecondByOldFirst,
+    /// Request 14: a refused image stamped.
+    RefusedStamped,
 }
 
 /// A refusal: its number and its place.
@@ -255,6 +260,50 @@ fn note_refused_mover(way: Way, refusal: Refusal, image: &[u8], room: usize, not
         }
         _ => (),
     }
+}
+
+// The stamp of request 14
+
+/// Two 32-bit numbers over the image, to name the table; with an error planted or with none. Refusals: the table
+/// checks; a refused image has the stamp 0 and 0.
+pub fn stamp(planted: Planted, image: &[u8], notes: &mut Notes) -> Answer {
+    let (first, second) = sums(planted, image);
+    match open(planted, &[Form::Old, Form::Dated], None, image, notes) {
+        Err((number, place)) if planted == Planted::RefusedStamped => {
+            Answer { number, place, written: first.into(), pieces: second.into(), ..Answer::default() }
+        }
+        Err((number, place)) => Answer { number, place, ..Answer::default() },
+        Ok(table) => {
+            let dated = image[image.len() - 1] == 52;
+            notes.note(if dated { Event::StampedDated } else { Event::StampedOld });
+            let events = [
+                (Event::StampedNoEntry, table.entries.is_empty()),
+                (Event::StampedFull, table.entries.len() == 1199),
+                (Event::StampPastTop, second_in_full(image) > u32::MAX.into()),
+            ];
+            for (event, _) in events.iter().filter(|(_, met)| *met) {
+                notes.note(*event);
+            }
+            Answer { written: first.into(), pieces: second.into(), ..Answer::default() }
+        }
+    }
+}
+
+/// Both start at 0; for each byte the first grows by the byte and the second by the new first, both going past
+/// the top back to 0.
+fn sums(planted: Planted, image: &[u8]) -> (u32, u32) {
+    let (mut first, mut second) = (0u32, 0u32);
+    for byte in image {
+        let old = first;
+        first = first.wrapping_add((*byte).into());
+        second = second.wrapping_add(if planted == Planted::SecondByOldFirst { old } else { first });
+    }
+    (first, second)
+}
+
+/// The second with no top: each byte so many times as there are bytes from it to the end.
+pub fn second_in_full(image: &[u8]) -> u64 {
+    image.iter().rev().zip(1..).map(|(byte, weight)| u64::from(*byte) * weight).sum()
 }
 
 // The table image

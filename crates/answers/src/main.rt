@@ -2,7 +2,7 @@
 // after another until it ends, and writes to standard output what the call that is asked answers to
 // each and every byte of the buffer that was lent. Numbers are low byte first.
 //
-// A case:     4 bytes  what is asked: 0 the whole call, 1 to date the table, 2 to undate it
+// A case:     4 bytes  what is asked: 0 the whole call, 1 to date the table, 2 to undate it, 3 its stamp
 //             4 bytes  length of the table image, at most 65,536
 //             4 bytes  length of the text, at most 17,000
 //             8 bytes  W, any 64-bit number
@@ -15,11 +15,14 @@
 //             8 bytes  each: place, bytes written, pieces, lines, pages
 //             the whole buffer of `room` bytes after the call; before it byte i, counted from 0, was the low eight bits of 7 i + 13
 //
-// To date or to undate a table, text, W, P, symbol and year are read and not looked at, and pieces,
-// lines and pages are 0. A case over these limits, or one that the input cuts short, gets no answer,
-// and the run ends there. The file stdin beside this folder has six cases, and stdout their answers:
-// by the paper's table COME with 8 bytes of room and `A|a` with 4, and to date it with 246; by the
-// dated one, COM from 1932 to 2015, COME in 2015 and in 2016, and to undate it, refused 17.
+// To date, to undate or to stamp a table, text, W, P, symbol and year are read and not looked at,
+// and pieces, lines and pages are 0; but the first number of a stamp stands in the place of the
+// bytes written, and the second in that of the pieces. A case over these limits, or one that the
+// input cuts short, gets no answer, and the run ends there. The file stdin beside this folder has
+// nine cases, and stdout their answers: by the paper's table COME with 8 bytes of room and `A|a`
+// with 4, and to date it with 246; by the dated one, COM from 1932 to 2015, COME in 2015 and in
+// 2016, and to undate it, refused 17; and with 4 bytes of room the stamps of the paper's table, of
+// the dated one, and of the paper's with a class of 0 in its second letter, refused 2.
 
 ghost use Prim.Native.Nat.{_≤_};
 ghost use Rattle.io.specs.Counts.{Counts};
@@ -28,6 +31,7 @@ use layout::Answer;
 use libc::STDIN_FILENO;
 use libc::STDOUT_FILENO;
 use pages::Sheet;
+use stamp::Stamped;
 use translation::Setting;
 
 // What a case asks, and its sizes.
@@ -42,6 +46,10 @@ struct Head {
 
 fn wide(b: u8) -> usize {
     b as usize
+}
+
+fn whole(n: u32) -> usize {
+    n as usize
 }
 
 fn year_byte(b: u8) -> u16 {
@@ -138,6 +146,16 @@ fn write_moved(answer: Moved) -> bool {
         & write_eight(0)
 }
 
+// The answer of a stamp: its two numbers in the place of bytes written and pieces.
+fn write_stamped(answer: Stamped) -> bool {
+    io::write_all(STDOUT_FILENO, &[answer.number()])
+        & write_eight(answer.place())
+        & write_eight(whole(answer.first()))
+        & write_eight(whole(answer.second()))
+        & write_eight(0)
+        & write_eight(0)
+}
+
 // Reads the next `n` bytes of the input into the front of the buffer, and answers how many came;
 // none where the buffer hasn't the room.
 fn read_front(bytes: &mut [u8], n: usize) -> usize
@@ -170,6 +188,13 @@ fn undate_into(image: &[u8], out: &mut [u8]) -> bool {
     write_moved(answer) & io::write_all(STDOUT_FILENO, out)
 }
 
+// Stamps a table, beside a buffer.
+fn stamp_beside(image: &[u8], out: &mut [u8]) -> bool {
+    prepare(out);
+    let answer = stamp::stamp(image);
+    write_stamped(answer) & io::write_all(STDOUT_FILENO, out)
+}
+
 // Answers one case into a buffer, by what it asks.
 fn answer_into(
     asked: usize,
@@ -185,7 +210,10 @@ fn answer_into(
     if asked == 1 {
         return date_into(image, out);
     }
-    undate_into(image, out)
+    if asked == 2 {
+        return undate_into(image, out);
+    }
+    stamp_beside(image, out)
 }
 
 // Answers one case with so much room.
@@ -210,7 +238,7 @@ fn answer_with(head: Head) -> bool {
     let held = read_front(&mut image, head.image);
     let mut text = [0u8; 17000];
     let length = read_front(&mut text, head.text);
-    if (held != head.image) | (length != head.text) | (2 < head.asked) {
+    if (held != head.image) | (length != head.text) | (3 < head.asked) {
         return false;
     }
     answer(

@@ -1,8 +1,9 @@
 // The papers' run cases: what the whole call answers at its limits, for refusals 1 to 8, 11 and 15
 // with their places, where two refusals hold at once, for words that are cut, by what follows the
-// text, and in years at the edges of an entry's. Each case prints its answer in the form of
-// `brailleout`. Some go on with the cells and pages; the others say whether the bytes lent are as
-// they were.
+// text, and in years at the edges of an entry's; and the stamps of the table in both forms. Each
+// case prints its answer in the form of `brailleout`. Some go on with the cells and pages; the
+// others say whether the bytes lent are as they were. A stamp's line has number, place and its two
+// numbers.
 use libc::STDOUT_FILENO;
 use pages::Sheet;
 use translation::Setting;
@@ -68,6 +69,20 @@ fn tell(setting: Setting, image: &[u8], text: &[u8], sheet: Sheet, out: &mut [u8
 fn answered(image: &[u8], text: &[u8], sheet: Sheet) {
     let mut out = [170u8; 65536];
     tell(follows(b' '), image, text, sheet, &mut out);
+}
+
+fn print_value(value: u64, after: u8) {
+    io::print_decimal(STDOUT_FILENO, value);
+    io::write_all(STDOUT_FILENO, &[after]);
+}
+
+// The answer of a stamp.
+fn stamped(image: &[u8]) {
+    let answer = stamp::stamp(image);
+    print_value(answer.number() as u64, b' ');
+    print_value(answer.place() as u64, b' ');
+    print_value(answer.first() as u64, b' ');
+    print_value(answer.second() as u64, b'\n');
 }
 
 // Words that are cut, or just aren't: nine A (seven and the hyphen, then two); eight A (whole);
@@ -163,8 +178,8 @@ fn in_years(dated: &[u8]) {
     show(in_year(2016), dated, &come, sheet(8, 2));
 }
 
-// The table dated, with COM in force from 1932 to 2015: COME in the years at these edges; with COM
-// from 2016 to 2015 (11, at the first-year byte).
+// The table dated, with COM in force from 1932 to 2015: COME in the years at these edges, and its
+// stamp; with COM from 2016 to 2015 (11, at the first-year byte), which has no stamp.
 fn years(image: &[u8]) {
     let mut dated = [0u8; 246];
     dates::date(image, &mut dated);
@@ -173,8 +188,10 @@ fn years(image: &[u8]) {
     dated[77] = 223;
     dated[78] = 7;
     in_years(&dated);
+    stamped(&dated);
     dated[75] = 224;
     answered(&dated, &[b'A'], sheet(8, 2));
+    stamped(&dated);
 }
 
 fn all(image: &[u8]) {
@@ -186,6 +203,7 @@ fn all(image: &[u8]) {
     orders(image);
     sections(image);
     years(image);
+    stamped(image);
 }
 
 // A wrong byte: of a letter's class (2, at that byte), of the blank's symbol (3), of an entry's
