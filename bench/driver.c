@@ -1,20 +1,11 @@
-/* Measures the proved call beside the same algorithm in C. Every input goes to all calls, in rounds in which they take turns, so that a
-   disturbance meets each of them; of each call and input the best round counts. Answers and output bytes are compared on every input,
-   and a difference ends the run.
+/* Measures the proved call beside the same algorithm in C (rounds.h).
 
-   Where in memory the linker puts a short loop can change its time by three to four tenths. So the driver is linked several times, each time with
-   the code moved on by some bytes; of each call the best of these placements counts, which the file TIMES hands from one to the next.
-
-   usage: driver TIMES IMAGE TEXT DOCUMENT...
-   It reads the table IMAGE, makes an English text of the documents, writes it to TEXT, and prints what it and the placements before it
-   measured. */
+   usage: driver TIMES IMAGE TEXT LAYOUT DOCUMENT...
+   It reads the table IMAGE, makes an English text of the documents, writes it to TEXT and what it is embossed as to LAYOUT, and prints
+   what it and the placements before it measured. */
 #define _POSIX_C_SOURCE 200809L
 #include "press.h"
-#include <stdarg.h>
 #include <stdio.h>
-#include <stdlib.h>
-#include <string.h>
-#include <time.h>
 
 extern emboss_call twin_cc_o2, twin_cc_o3, twin_kit;
 
@@ -32,8 +23,7 @@ static const struct {
 
 enum {
     CALLS = sizeof calls / sizeof calls[0],
-    PROVED = 0,
-    MOST_MEASURED = 32,
+    STORED = VALUES,
     MOST_IMAGE = 28301,
     MOST_TEXT = 16384,
     ROOM = 160000,
@@ -42,36 +32,12 @@ enum {
     FIRST_YEAR = 1932,
     LAST_YEAR = 2015,
     TEXT_BYTES = 262144,
-    WIDTH = 38,
-    PAGE = 25,
     ROUNDS = 40,
     ENTRY = 18,
     DATED_ENTRY = 22,
     DATED = 52,
     MOST_ENTRIES = 1199,
 };
-
-static void fail(const char *words, ...)
-{
-    va_list list;
-
-    va_start(list, words);
-    fprintf(stderr, "bench: ");
-    vfprintf(stderr, words, list);
-    fprintf(stderr, "\n");
-    va_end(list);
-    exit(1);
-}
-
-static double now(void)
-{
-    struct timespec t;
-
-    clock_gettime(CLOCK_MONOTONIC, &t);
-    return t.tv_sec * 1e9 + t.tv_nsec;
-}
-
-/* ---- One input, and its answers compared */
 
 struct input {
     const uint8_t *image;
@@ -83,139 +49,24 @@ struct input {
     uint64_t width, page, room;
 };
 
-static uint8_t out[CALLS][ROOM];
-static uint64_t answer[CALLS][VALUES];
-static long compared;
-
-/* Runs one call and answers its nanoseconds. */
-static double run(int c, const struct input *in)
+static const char *name_of(int c)
 {
-    double began = now();
-
-    calls[c].call(in->image, in->image_length, in->text, in->text_length, in->following, in->year, in->width, in->page,
-                  out[c], in->room, answer[c]);
-    return now() - began;
+    return calls[c].name;
 }
 
-/* Compares the answers, and the outputs' first bytes. */
-static void compare(const struct input *in, uint64_t bytes)
+static void call(int c, const struct input *in, uint8_t *lent, uint64_t *stored)
 {
-    int c, i;
-
-    for (c = 1; c < CALLS; c++) {
-        for (i = 0; i < VALUES; i++)
-            if (answer[c][i] != answer[PROVED][i])
-                fail("a difference: value %d of the answer is %llu, and of '%s' %llu (text of %llu bytes, followed by %u, year %u, W %llu, "
-                     "P %llu, room %llu)",
-                     i, (unsigned long long)answer[PROVED][i], calls[c].name, (unsigned long long)answer[c][i],
-                     (unsigned long long)in->text_length, in->following, in->year, (unsigned long long)in->width,
-                     (unsigned long long)in->page, (unsigned long long)in->room);
-        if (memcmp(out[c], out[PROVED], bytes) != 0)
-            fail("a difference: the output of '%s' (text of %llu bytes, followed by %u, year %u, W %llu, P %llu, room %llu)", calls[c].name,
-                 (unsigned long long)in->text_length, in->following, in->year, (unsigned long long)in->width,
-                 (unsigned long long)in->page, (unsigned long long)in->room);
-    }
-    compared++;
+    calls[c].call(in->image, in->image_length, in->text, in->text_length, in->following, in->year, in->width, in->page, lent, in->room,
+                  stored);
 }
 
-/* Fills the outputs with bytes that tell their place, so that a byte which must not change is seen to be as it was. */
-static void lend(void)
+static void tell(const struct input *in)
 {
-    int c, i;
-
-    for (c = 0; c < CALLS; c++)
-        for (i = 0; i < ROOM; i++)
-            out[c][i] = 7 * i + 13;
+    fprintf(stderr, "a text of %llu bytes, followed by %u, year %u, W %llu, P %llu, room %llu\n", (unsigned long long)in->text_length,
+            in->following, in->year, (unsigned long long)in->width, (unsigned long long)in->page, (unsigned long long)in->room);
 }
 
-static void check(const struct input *in)
-{
-    int c;
-
-    for (c = 0; c < CALLS; c++)
-        run(c, in);
-    compare(in, ROOM);
-}
-
-/* ---- Measuring */
-
-/* Nanoseconds of all inputs together, of each its best round: in the best placement so far, and in the worst. */
-struct times {
-    double best[CALLS], worst[CALLS];
-};
-
-static struct {
-    int placements;
-    struct times of[MOST_MEASURED];
-} times;
-
-static int measured;
-
-static void read_times(const char *name)
-{
-    FILE *f = fopen(name, "rb");
-
-    if (!f)
-        return;
-    if (fread(&times, sizeof times, 1, f) != 1)
-        fail("%s is no file of times", name);
-    fclose(f);
-}
-
-static void write_times(const char *name)
-{
-    FILE *f = fopen(name, "wb");
-
-    times.placements++;
-    if (!f || fwrite(&times, sizeof times, 1, f) != 1 || fclose(f) != 0)
-        fail("%s can't be written", name);
-}
-
-static struct times *measure(const struct input *in, int inputs, int rounds)
-{
-    struct times *t = &times.of[measured++];
-    double *best = malloc(sizeof *best * inputs * CALLS), sum, took;
-    int i, c, r, turn;
-
-    for (i = 0; i < inputs * CALLS; i++)
-        best[i] = 1e300;
-    for (r = 0; r < rounds; r++)
-        for (i = 0; i < inputs; i++) {
-            for (turn = 0; turn < CALLS; turn++) {
-                c = (turn + r + i) % CALLS;
-                took = run(c, &in[i]);
-                if (took < best[i * CALLS + c])
-                    best[i * CALLS + c] = took;
-            }
-            compare(&in[i], answer[PROVED][WRITTEN]);
-        }
-    for (i = 0; i < inputs; i++) {
-        lend();
-        check(&in[i]);
-    }
-    for (c = 0; c < CALLS; c++) {
-        for (sum = 0, i = 0; i < inputs; i++)
-            sum += best[i * CALLS + c];
-        if (times.placements == 0 || sum < t->best[c])
-            t->best[c] = sum;
-        if (times.placements == 0 || sum > t->worst[c])
-            t->worst[c] = sum;
-    }
-    free(best);
-    return t;
-}
-
-/* The best time of a call in C. */
-static double fastest(const struct times *t)
-{
-    double least = t->best[1];
-    int c;
-
-    for (c = 2; c < CALLS; c++)
-        if (t->best[c] < least)
-            least = t->best[c];
-    return least;
-}
+#include "rounds.h"
 
 /* ---- The table: where its sections lie, by the trailer */
 
@@ -248,18 +99,6 @@ static int in_alphabet(int c)
 
 static uint8_t text[TEXT_BYTES];
 static uint64_t text_length;
-
-static uint64_t read_file(const char *name, uint8_t *bytes, uint64_t most)
-{
-    FILE *f = fopen(name, "rb");
-    uint64_t n;
-
-    if (!f)
-        fail("%s can't be read", name);
-    n = fread(bytes, 1, most, f);
-    fclose(f);
-    return n;
-}
 
 static void put(int c)
 {
@@ -296,7 +135,7 @@ static void make_text(char **names, int documents)
     do {
         had = text_length;
         for (i = 0; i < documents; i++)
-            add_document(bytes, read_file(names[i], bytes, sizeof bytes));
+            add_document(bytes, read_bytes(names[i], bytes, sizeof bytes));
     } while (text_length < TEXT_BYTES && text_length > had);
     if (text_length < TEXT_BYTES)
         fail("the documents are empty");
@@ -321,14 +160,6 @@ static struct input input(const uint8_t *table, uint64_t length, const uint8_t *
 }
 
 /* ---- Tables of any size: entries whose strings stand in the text, in the order backwards by the alphabet, which is grouped */
-
-static uint32_t seed = 1;
-
-static uint32_t random_below(uint32_t n)
-{
-    seed = seed * 1664525 + 1013904223;
-    return (seed >> 8) % n;
-}
 
 static uint8_t drawn[MOST_ENTRIES][ENTRY];
 
@@ -538,21 +369,26 @@ static void compare_refusals(const struct input *sound)
 
 /* ---- What is printed */
 
-static void whole_text(const struct input *sections, int count)
+static void whole_text(const struct input *sections, int count, const char *layout)
 {
     struct times *t;
     uint64_t bytes = 0, pieces = 0, lines = 0, pages = 0;
+    FILE *f = fopen(layout, "wb");
     int c, i;
 
     for (i = 0; i < count; i++) {
         check(&sections[i]);
         if (answer[PROVED][NUMBER] != 0)
             fail("section %d of the text is refused with number %llu", i, (unsigned long long)answer[PROVED][NUMBER]);
+        if (!f || fwrite(out[PROVED], 1, answer[PROVED][WRITTEN], f) != answer[PROVED][WRITTEN])
+            fail("%s can't be written", layout);
         bytes += sections[i].text_length;
         pieces += answer[PROVED][PIECES];
         lines += answer[PROVED][LINES];
         pages += answer[PROVED][PAGES];
     }
+    if (!f || fclose(f) != 0)
+        fail("%s can't be written", layout);
     t = measure(sections, count, ROUNDS);
     printf("The whole text: %llu characters in %d sections, %llu pieces, %llu lines, %llu pages (W %d, P %d)\n\n", (unsigned long long)bytes,
            count, (unsigned long long)pieces, (unsigned long long)lines, (unsigned long long)pages, WIDTH, PAGE);
@@ -693,13 +529,13 @@ int main(int words, char **word)
     int count = 0;
     FILE *f;
 
-    if (words < 5)
-        fail("usage: driver TIMES IMAGE TEXT DOCUMENT...");
+    if (words < 6)
+        fail("usage: driver TIMES IMAGE TEXT LAYOUT DOCUMENT...");
     read_times(word[1]);
-    image_length = read_file(word[2], image, sizeof image);
+    image_length = read_bytes(word[2], image, sizeof image);
     if (image_length < 14)
         fail("%s is no table", word[2]);
-    make_text(word + 4, words - 4);
+    make_text(word + 5, words - 5);
     f = fopen(word[3], "wb");
     if (!f || fwrite(text, 1, text_length, f) != text_length || fclose(f) != 0)
         fail("%s can't be written", word[3]);
@@ -709,7 +545,7 @@ int main(int words, char **word)
     }
     draw_entries();
     compare_refusals(&sections[0]);
-    whole_text(sections, count);
+    whole_text(sections, count, word[4]);
     growing_text();
     growing_table();
     shares();

@@ -1,4 +1,4 @@
-/* How much stack the call needs: it runs in a thread whose stack is filled with a pattern before, and the deepest byte that
+/* How much stack a call needs: it runs in a thread whose stack is filled with a pattern before, and the deepest byte that
    changed is the depth. What the thread itself needs is measured with a call of an empty function and taken off. The
    declarations are written out, so that it can be compiled for x86-64 where no headers for that are. */
 typedef unsigned char byte;
@@ -16,12 +16,16 @@ extern int pthread_join(unsigned long thread, void **answer);
 
 extern void tlopahuexi_emboss(const byte *image, size image_length, const byte *text, size text_length, byte following, two_bytes year,
                               size width, size length, byte *out, size out_length, unsigned long answer[6]);
+extern void tlopahuexi_write_file(const byte *layout, size layout_length, size width, size length, byte *out, size out_length,
+                                  unsigned long answer[3]);
+extern void tlopahuexi_read_file(const byte *file, size file_length, size width, size length, byte *out, size out_length,
+                                 unsigned long answer[3]);
 
 enum { STACK = 1 << 20, MOST = 65536 };
 
 static byte stack[STACK] __attribute__((aligned(4096)));
-static byte image[MOST], text[MOST], out[MOST];
-static size image_length, text_length;
+static byte image[MOST], text[MOST], out[MOST], file[MOST];
+static size image_length, text_length, layout_length;
 static unsigned long answer[6];
 
 static void *nothing(void *given)
@@ -32,6 +36,18 @@ static void *nothing(void *given)
 static void *call(void *given)
 {
     tlopahuexi_emboss(image, image_length, text, text_length, ' ', 1970, 60, 40, out, sizeof out, answer);
+    return given;
+}
+
+static void *write_file(void *given)
+{
+    tlopahuexi_write_file(out, layout_length, 60, 40, file, sizeof file, answer);
+    return given;
+}
+
+static void *read_file(void *given)
+{
+    tlopahuexi_read_file(file, layout_length, 60, 40, out, sizeof out, answer);
     return given;
 }
 
@@ -62,20 +78,32 @@ static size contents(const char *path, byte *to)
     return read;
 }
 
-/* stack IMAGE TEXT..: the depth of a call for each text. */
+static size empty;
+
+/* Prints the depth of a call; 0 where it can't be told. */
+static int print_depth(void *(*run)(void *), const char *given, size bytes)
+{
+    size deep = depth(run);
+    if (empty == 0 || deep == 0)
+        return 0;
+    printf("%8lu bytes of stack: %lu bytes of %s, answer %lu at %lu\n", deep - empty, bytes, given, answer[0], answer[1]);
+    return 1;
+}
+
+/* stack IMAGE TEXT..: the depth of a call for each text, and of writing and reading the file of its layout. */
 int main(int words, char **word)
 {
-    size empty, deep;
     int i;
     if (words < 3 || (image_length = contents(word[1], image)) == 0)
         return 2;
     empty = depth(nothing);
     for (i = 2; i < words; i++) {
         text_length = contents(word[i], text);
-        deep = depth(call);
-        if (empty == 0 || deep == 0)
+        if (!print_depth(call, "text", text_length))
             return 1;
-        printf("%8lu bytes of stack: %lu bytes of text, answer %lu at %lu\n", deep - empty, text_length, answer[0], answer[1]);
+        layout_length = answer[2];
+        if (!print_depth(write_file, "layout", layout_length) || !print_depth(read_file, "file", layout_length))
+            return 1;
     }
     return 0;
 }

@@ -1,6 +1,8 @@
 //! What is counted on the way to an answer, so that a run can say what it met: a list of events with the words
 //! for each, and how often each happened. Nothing here is part of an answer.
 
+use crate::reference::Filing;
+
 /// Defines an enum and the list of the words for its cases.
 macro_rules! counted {
     ($(#[$about:meta])* $name:ident, $words:ident { $($case:ident: $in_words:expr,)* }) => {
@@ -92,6 +94,46 @@ counted! {
         DatedByByte19: "refused 17 for the high byte of the first year alone",
         DatedByByte20: "refused 17 for the low byte of the last year alone",
         DatedByByte21: "refused 17 for the high byte of the last year alone",
+        Layout66: "layouts refused at a byte 66",
+        LayoutOver66: "layouts refused at a byte over 66",
+        LayoutCellOverW: "layouts refused at a cell after W cells of its line",
+        LayoutBlankLast: "layouts refused at a blank in column W-1",
+        LayoutLineEndsInBlank: "layouts refused at the end of a line that ends in a blank",
+        LayoutCellOverP: "layouts refused at a cell after P lines of its page",
+        LayoutLineOverP: "layouts refused at a line's end after P lines of its page",
+        LayoutPageEndFirst: "layouts refused at a page's end that comes first",
+        LayoutPageEndAgain: "layouts refused at a page's end right after another",
+        LayoutPageEndInLine: "layouts refused at a page's end inside a line",
+        LayoutShortInLine: "layouts that stop short inside a line",
+        LayoutShortAfterFullLine: "layouts that stop short after W cells",
+        LayoutShortAfterBlank: "layouts that stop short after a blank",
+        LayoutShortAfterLine: "layouts that stop short after a line",
+        LayoutShortAfterFullPage: "layouts that stop short after P lines",
+        LayoutWrongLater: "layouts refused 16 after a whole page",
+        LayoutWrongAndRoom: "layouts refused 16 where the output is too short",
+        LayoutSizesAndWrong: "layouts refused 5 that are wrong besides",
+        LayoutSizesAndRoom: "layouts refused 5 where the output is too short",
+        FileLowerCase: "files refused at a lower-case letter",
+        FileControl: "files refused at a control character that is no line feed and no form feed",
+        FileOtherPrinted: "files refused at another printed character that is not in the chart",
+        FileOver127: "files refused at a byte over 127",
+        FileCellOverW: "files refused at a cell after W cells of its line",
+        FileBlankLast: "files refused at a blank in column W-1",
+        FileLineEndsInBlank: "files refused at the end of a line that ends in a blank",
+        FileCellOverP: "files refused at a cell after P lines of its page",
+        FileLineOverP: "files refused at a line's end after P lines of its page",
+        FilePageEndFirst: "files refused at a page's end that comes first",
+        FilePageEndAgain: "files refused at a page's end right after another",
+        FilePageEndInLine: "files refused at a page's end inside a line",
+        FileShortInLine: "files that stop short inside a line",
+        FileShortAfterFullLine: "files that stop short after W cells",
+        FileShortAfterBlank: "files that stop short after a blank",
+        FileShortAfterLine: "files that stop short after a line",
+        FileShortAfterFullPage: "files that stop short after P lines",
+        FileWrongLater: "files refused 16 after a whole page",
+        FileWrongAndRoom: "files refused 16 where the output is too short",
+        FileSizesAndWrong: "files refused 5 that are wrong besides",
+        FileSizesAndRoom: "files refused 5 where the output is too short",
         FullAlphabet: "tables of 63 alphabet records",
         FullContractions: "tables of 1,199 entries",
         FullContexts: "tables of 5 right contexts",
@@ -114,6 +156,30 @@ counted! {
         StampedNoEntry: "stamps of tables of no entry",
         StampedFull: "stamps of tables of 1,199 entries",
         StampPastTop: "stamps whose second number goes past the top",
+        LayoutEmpty: "layouts of no byte written",
+        LayoutPages: "layouts of two pages and more written",
+        LayoutFullPage: "layouts with a page of P lines written",
+        LayoutFullLine: "layouts with a line of W cells written",
+        LayoutEmptyLine: "layouts with an empty line written",
+        LayoutEmptyFirst: "layouts with an empty line first on a page written",
+        LayoutEmptyLast: "layouts with an empty line last on a page written",
+        LayoutBlankFirst: "layouts with a line that starts with a blank written",
+        LayoutBlankBeforeLast: "layouts with a blank in column W-2 and a cell after it written",
+        LayoutAllCells: "layouts with each of the 64 cells written",
+        LayoutOver4000: "layouts over 4,000 bytes written",
+        LayoutOver65536: "layouts over 65,536 bytes written",
+        FileEmpty: "files of no byte read",
+        FilePages: "files of two pages and more read",
+        FileFullPage: "files with a page of P lines read",
+        FileFullLine: "files with a line of W cells read",
+        FileEmptyLine: "files with an empty line read",
+        FileEmptyFirst: "files with an empty line first on a page read",
+        FileEmptyLast: "files with an empty line last on a page read",
+        FileBlankFirst: "files with a line that starts with a blank read",
+        FileBlankBeforeLast: "files with a blank in column W-2 and a cell after it read",
+        FileAllCells: "files with each of the 64 cells read",
+        FileOver4000: "files over 4,000 bytes read",
+        FileOver65536: "files over 65,536 bytes read",
         FullText: "texts of 16,384 bytes",
         BarDropped: "bars dropped",
         LineFeedTurned: "line feeds turned into blanks",
@@ -201,7 +267,7 @@ impl Notes {
 
     /// Only what was wrong, for a case that was refused.
     pub fn add_refused(&mut self, other: &Notes) {
-        for event in 0..=Event::DatedByByte21 as usize {
+        for event in 0..=Event::FileSizesAndRoom as usize {
             self.counts[event] += other.counts[event];
         }
     }
@@ -269,6 +335,14 @@ impl Notes {
         for (event, _) in events.iter().filter(|(_, met)| *met) {
             self.note(*event);
         }
+    }
+
+    /// Notes the one event where a file is written from a layout, and the other where a file is read.
+    pub fn of_filing(&mut self, filing: Filing, layout: Event, file: Event) {
+        self.note(match filing {
+            Filing::Write => layout,
+            Filing::Read => file,
+        });
     }
 
     /// Whether all these rules are kept; notes the one that is broken alone.

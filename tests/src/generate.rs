@@ -1,36 +1,61 @@
 //! Random cases from a seed: sound tables and damaged ones, of both forms, years at every edge of
 //! their entries', texts dense in the table's own strings, words about as wide as a line or as
 //! some, symbols that follow the texts, widths and page lengths across and beyond their limits,
-//! tables to be moved from one form to the other, tables to be stamped, output rooms around what is
-//! needed. The same seed gives the same case on every machine. Most cases are small; a few reach
-//! every limit.
+//! tables to be moved from one form to the other, tables to be stamped, layouts and files to be
+//! written and read (src/files.rs), output rooms around what is needed. The same seed gives the same
+//! case on every machine. Most cases are small; a few reach every limit.
 
 use crate::counts::Notes;
-use crate::reference::{emboss_planted, move_table, stamp, Answer, Asked, Planted, Way};
+use crate::files::file_case;
+use crate::reference::{emboss_planted, file_pages, move_table, stamp, Answer, Asked, Filing, Planted, Way};
 use crate::table::{Entry, Table, ALWAYS};
 
 /// The limits that the byte form of a case sets.
 pub const LARGEST_IMAGE: usize = 65_536;
-pub const LARGEST_TEXT: usize = 17_000;
+pub const LARGEST_TEXT: usize = 163_840;
 pub const LARGEST_ROOM: usize = 163_840;
+
+/// The longest text that the whole call is given.
+const LONGEST_TEXT: usize = 17_000;
 
 /// Tables of this many entries and more have an alphabet of more than the blank and the period.
 const MANY_ENTRIES: usize = 41;
 
-/// What is asked: the whole call, to move the table from one form to the other, or its stamp. All
-/// but the whole call don't look at text, following symbol, year and sizes; a stamp has no output.
+/// What is asked: the whole call, to move the table from one form to the other, or its stamp; to
+/// write a file of the text, which is a layout, or to read it as a file. Movers and stamp don't look
+/// at text, following symbol, year and sizes, and a stamp has no output; the files don't look at
+/// image, following symbol and year.
 #[derive(Clone, Copy, Debug, PartialEq, Eq)]
 pub enum Question {
     Emboss = 0,
     Date = 1,
     Undate = 2,
     Stamp = 3,
+    WriteFile = 4,
+    ReadFile = 5,
 }
 
 impl Question {
     /// The question of a number in the byte form of a case.
     pub fn of(number: usize) -> Option<Question> {
-        [Question::Emboss, Question::Date, Question::Undate, Question::Stamp].get(number).copied()
+        let questions = [
+            Question::Emboss,
+            Question::Date,
+            Question::Undate,
+            Question::Stamp,
+            Question::WriteFile,
+            Question::ReadFile,
+        ];
+        questions.get(number).copied()
+    }
+
+    /// Whether a file is written or read, and which.
+    pub fn filing(self) -> Option<Filing> {
+        match self {
+            Question::WriteFile => Some(Filing::Write),
+            Question::ReadFile => Some(Filing::Read),
+            _ => None,
+        }
     }
 }
 
@@ -61,6 +86,8 @@ impl Case {
             Question::Date => move_table(planted, Way::Date, image, out, notes),
             Question::Undate => move_table(planted, Way::Undate, image, out, notes),
             Question::Stamp => stamp(planted, image, notes),
+            Question::WriteFile => file_pages(planted, Filing::Write, text, (w, p), out, notes),
+            Question::ReadFile => file_pages(planted, Filing::Read, text, (w, p), out, notes),
         }
     }
 }
@@ -82,20 +109,20 @@ impl Random {
     }
 
     /// A number from `low` to `high`, both included.
-    fn between(&mut self, low: usize, high: usize) -> usize {
+    pub fn between(&mut self, low: usize, high: usize) -> usize {
         low + (self.next() % (high - low + 1) as u64) as usize
     }
 
     /// True once in `times`.
-    fn once_in(&mut self, times: u64) -> bool {
+    pub fn once_in(&mut self, times: u64) -> bool {
         self.next() % times == 0
     }
 
-    fn any<T: Copy>(&mut self, choices: &[T]) -> T {
+    pub fn any<T: Copy>(&mut self, choices: &[T]) -> T {
         choices[self.between(0, choices.len() - 1)]
     }
 
-    fn shuffle<T>(&mut self, list: &mut [T]) {
+    pub fn shuffle<T>(&mut self, list: &mut [T]) {
         for last in (1..list.len()).rev() {
             list.swap(last, self.between(0, last));
         }
@@ -109,12 +136,14 @@ pub fn case_seed(seed: u64, number: u64) -> u64 {
 
 counted! {
     /// What a case is made of: one kind of question, table, image, text, following symbol, year,
-    /// size and room each.
+    /// size and room each; of a file one kind of question, pages, damage, size and room each.
     Kind, KIND_WORDS {
         AskedEmboss: "the whole call asked",
         AskedDate: "tables to be moved to the dated form",
         AskedUndate: "tables to be moved back to the old form",
         AskedStamp: "tables to be stamped",
+        AskedWrite: "layouts to be written as files",
+        AskedRead: "files to be read",
         OldForm: "tables of the old form",
         DatedMixed: "tables of the dated form, entries with years and without",
         DatedAlways: "tables of the dated form whose entries are all always in force",
@@ -197,6 +226,42 @@ counted! {
         UndateAmple: "rooms longer by two bytes and more for the old form",
         StampNone: "rooms of no byte beside a stamp",
         StampSome: "rooms beside a stamp, to be left as lent",
+        PagesNone: "no page",
+        PagesFew: "pages of lines of any width",
+        PagesFull: "full pages of full lines",
+        PagesAllCells: "pages with each cell",
+        PagesMany: "pages of several thousand bytes",
+        PagesHuge: "pages of more than 65,536 bytes",
+        PagesEmbossedWrite: "layouts as the whole call wrote them",
+        PagesEmbossedRead: "files of layouts as the whole call wrote them",
+        PagesSound: "pages without damage",
+        PagesOtherByte: "pages with a byte put in that stands for nothing",
+        PagesLineOver: "pages with a line made longer than W",
+        PagesBlankLast: "pages with a blank put in column W-1",
+        PagesLineBlank: "pages with a blank put at the end of a line",
+        PagesOver: "pages made longer than P lines",
+        PagesNoLine: "pages with one of no line put in",
+        PagesEndInLine: "pages with a page's end put in a line",
+        PagesCutShort: "pages cut short",
+        PagesGoOn: "pages with text after the last",
+        PagesByteChanged: "pages with any byte changed, put in or lost",
+        PagesLowered: "files in lower case throughout",
+        PagesCarriageReturns: "files with a carriage return before each line feed",
+        PagesOtherKind: "layouts to be read, or files to be written",
+        WriteNotAsked: "rooms of layouts refused",
+        WriteNone: "rooms of no byte for a file",
+        WriteShort: "rooms shorter by two bytes and more for a file",
+        WriteOneShort: "rooms shorter by one byte for a file",
+        WriteExact: "rooms of the bytes needed for a file",
+        WriteOneMore: "rooms longer by one byte for a file",
+        WriteAmple: "rooms longer by two bytes and more for a file",
+        ReadNotAsked: "rooms of files refused",
+        ReadNone: "rooms of no byte for a layout",
+        ReadShort: "rooms shorter by two bytes and more for a layout",
+        ReadOneShort: "rooms shorter by one byte for a layout",
+        ReadExact: "rooms of the bytes needed for a layout",
+        ReadOneMore: "rooms longer by one byte for a layout",
+        ReadAmple: "rooms longer by two bytes and more for a layout",
     }
 }
 
@@ -205,6 +270,9 @@ pub fn case(seed: u64) -> Case {
     let random = &mut Random::new(seed);
     let mut kinds = vec![];
     let question = question(random, &mut kinds);
+    if let Some(filing) = question.filing() {
+        return file_case(random, seed, question, filing, kinds);
+    }
     let form = form(random, question);
     let (table, year, image, mut text) = if question == Question::Emboss && random.once_in(200) {
         let (table, text) = much_output(random, form);
@@ -244,12 +312,7 @@ pub fn case(seed: u64) -> Case {
         16_380..=16_384 => Kind::TextOf16380,
         _ => Kind::TextOver,
     });
-    let (w, p) = (width(random), page_length(random));
-    kinds.push(match (w, p) {
-        (8..=60, 2..=40) => Kind::SizesWithin,
-        (0..=255, 0..=255) => Kind::SizesBeyond,
-        _ => Kind::SizesFar,
-    });
+    let (w, p) = sizes(random, &mut kinds);
     word_at_margin(random, &table, w, &mut text, &mut kinds);
     end_in_entry(random, &table, &mut text);
     let following = following(random, &table, &mut kinds);
@@ -261,10 +324,12 @@ pub fn case(seed: u64) -> Case {
 /// What is asked: mostly the whole call.
 fn question(random: &mut Random, kinds: &mut Vec<Kind>) -> Question {
     let (kind, question) = match random.between(0, 99) {
-        0..=86 => (Kind::AskedEmboss, Question::Emboss),
-        87..=91 => (Kind::AskedDate, Question::Date),
-        92..=96 => (Kind::AskedUndate, Question::Undate),
-        _ => (Kind::AskedStamp, Question::Stamp),
+        0..=79 => (Kind::AskedEmboss, Question::Emboss),
+        80..=84 => (Kind::AskedDate, Question::Date),
+        85..=89 => (Kind::AskedUndate, Question::Undate),
+        90..=92 => (Kind::AskedStamp, Question::Stamp),
+        93..=95 => (Kind::AskedWrite, Question::WriteFile),
+        _ => (Kind::AskedRead, Question::ReadFile),
     };
     kinds.push(kind);
     question
@@ -296,6 +361,7 @@ fn form(random: &mut Random, question: Question) -> Form {
         (Question::Undate, 9..=13) => Form::One,
         (Question::Undate, 14..=16) => Form::Mixed,
         (Question::Undate, _) => Form::Old,
+        (Question::WriteFile | Question::ReadFile, _) => unreachable!("a file has no table"),
     }
 }
 
@@ -900,7 +966,7 @@ fn text(random: &mut Random, table: &Table, kinds: &mut Vec<Kind>) -> Vec<u8> {
         979..=982 => random.between(400, 5000),
         983..=993 => random.between(16_385, 16_388),
         994..=997 => random.between(16_380, 16_384),
-        _ => random.any(&[16_383, 16_384, 16_385, LARGEST_TEXT]),
+        _ => random.any(&[16_383, 16_384, 16_385, LONGEST_TEXT]),
     };
     let mut symbols: Vec<u8> = table.alphabet.iter().map(|letter| letter[0]).collect();
     symbols.push(b' ');
@@ -1013,6 +1079,25 @@ fn following(random: &mut Random, table: &Table, kinds: &mut Vec<Kind>) -> u8 {
     following
 }
 
+/// What the whole call writes, with so much room, for some table and text with these sizes: nothing
+/// where they are outside their limits.
+pub fn embossed(random: &mut Random, (w, p): (u64, u64), room: usize) -> Vec<u8> {
+    let (table, mut text) = if random.once_in(20) {
+        much_output(random, Form::Old)
+    } else {
+        let table = sound_table(random, Form::Old);
+        let text = text(random, &table, &mut vec![]);
+        (table, text)
+    };
+    text.retain(|character| table.alphabet.iter().any(|letter| letter[0] == *character));
+    text.truncate(room.min(16_384));
+    let asked = Asked { image: &table.image(), text: &text, following: b' ', year: 0, w, p };
+    let mut out = vec![0; room];
+    let answer = emboss_planted(Planted::Nothing, asked, &mut out, &mut Notes::new());
+    out.truncate(answer.written as usize);
+    out
+}
+
 /// A table each of whose entries prints as much as four signs can, and a long text of its strings: up to nine
 /// bytes for each character, some 147,500 in all.
 fn much_output(random: &mut Random, form: Form) -> (Table, Vec<u8>) {
@@ -1034,6 +1119,17 @@ fn much_output(random: &mut Random, form: Form) -> (Table, Vec<u8>) {
 }
 
 // Widths, page lengths, rooms
+
+/// W and P of a case.
+pub fn sizes(random: &mut Random, kinds: &mut Vec<Kind>) -> (u64, u64) {
+    let (w, p) = (width(random), page_length(random));
+    kinds.push(match (w, p) {
+        (8..=60, 2..=40) => Kind::SizesWithin,
+        (0..=255, 0..=255) => Kind::SizesBeyond,
+        _ => Kind::SizesFar,
+    });
+    (w, p)
+}
 
 fn width(random: &mut Random) -> u64 {
     match random.between(0, 49) {

@@ -5,6 +5,7 @@
 
 #[macro_use]
 mod counts;
+mod files;
 mod generate;
 mod programs;
 mod reference;
@@ -20,7 +21,7 @@ use reference::{Answer, Planted};
 use std::io::{Read, Write};
 use std::process::{exit, Command, Stdio};
 
-const USAGE: &str = "compare --seed S --cases N --program WORD [--program WORD ...] [--planted 1..21] [--batch N] [--all-counts]
+const USAGE: &str = "compare --seed S --cases N --program WORD [--program WORD ...] [--planted 1..30] [--batch N] [--all-counts]
 compare case SEED
 compare table FILE IMAGE
 compare vectors FOLDER --program WORD [--program WORD ...]
@@ -95,6 +96,15 @@ impl Settings {
                         "19" => Planted::IndexAsPlace,
                         "20" => Planted::SecondByOldFirst,
                         "21" => Planted::RefusedStamped,
+                        "22" => Planted::LowerCaseFolded,
+                        "23" => Planted::BlankAtLineEnd,
+                        "24" => Planted::PageOfNoLine,
+                        "25" => Planted::PlaceOneFurther,
+                        "26" => Planted::PageOverP,
+                        "27" => Planted::CharactersExchanged,
+                        "28" => Planted::BlankFoundLate,
+                        "29" => Planted::RoomBeforeFile,
+                        "30" => Planted::LineOverW,
                         _ => return Err(USAGE.to_string()),
                     }
                 }
@@ -265,11 +275,13 @@ pub fn run_program<T>(
 
 /// What can be asked, in which words, and the numbers of its answers in the order in which they are
 /// met.
-const NUMBERS: [(Question, &str, &[u8]); 4] = [
+const NUMBERS: [(Question, &str, &[u8]); 6] = [
     (Question::Emboss, "answer", &[0, 1, 2, 11, 12, 13, 14, 3, 4, 5, 6, 7, 15, 8]),
     (Question::Date, "dating: answer", &[0, 1, 2, 11, 12, 13, 14, 3, 4, 8]),
     (Question::Undate, "moving back: answer", &[0, 1, 2, 11, 12, 13, 14, 3, 4, 17, 8]),
     (Question::Stamp, "stamp: answer", &[0, 1, 2, 11, 12, 13, 14, 3, 4]),
+    (Question::WriteFile, "writing a file: answer", &[0, 5, 16, 8]),
+    (Question::ReadFile, "reading a file: answer", &[0, 5, 16, 8]),
 ];
 
 struct Counts {
@@ -370,8 +382,9 @@ fn report(settings: &Settings, counts: &Counts, notes: &Notes) -> Result<(), Str
         if !zero.is_empty() {
             return Err(format!("counts of zero: {}", zero.join(", ")));
         }
-        if counts.with_cells * 10 < counts.cases * 4 {
-            return Err("fewer than four in ten cases answer 0 with cells".to_string());
+        let whole_calls: u64 = counts.answers[Question::Emboss as usize].iter().sum();
+        if counts.with_cells * 10 < whole_calls * 4 {
+            return Err("fewer than four in ten whole calls answer 0 with cells".to_string());
         }
     }
     Ok(())
@@ -384,7 +397,11 @@ fn show(seed: &str) -> Result<(), String> {
     let answer = case.answer(Planted::Nothing, &mut buffer, &mut Notes::new());
     println!("{:?}, year {} W {} P {} room {}", case.question, case.year, case.w, case.p, case.room);
     println!("image, {} bytes: {:?}", case.image.len(), case.image);
-    println!("text, {} bytes: {:?}", case.text.len(), String::from_utf8_lossy(&case.text));
+    if case.question == Question::WriteFile {
+        println!("layout, {} bytes: {:?}", case.text.len(), case.text);
+    } else {
+        println!("text, {} bytes: {:?}", case.text.len(), String::from_utf8_lossy(&case.text));
+    }
     println!("following {} {:?}", case.following, case.following as char);
     println!("{answer:?}");
     if case.question != Question::Stamp {

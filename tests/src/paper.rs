@@ -2,7 +2,9 @@
 //! what a request of document 02 changes, by the same table.
 
 use crate::counts::Notes;
-use crate::reference::{emboss, emboss_planted, move_table, second_in_full, stamp, Answer, Asked, Planted, Way};
+use crate::reference::{
+    emboss, emboss_planted, file_pages, move_table, second_in_full, stamp, Answer, Asked, Filing, Planted, Way,
+};
 use crate::table;
 
 /// The paper's table has the old form, so it doesn't care about the year.
@@ -835,4 +837,149 @@ fn errors_of_the_stamp() {
     assert_eq!(stamped(Planted::SecondByOldFirst, &image()), (0, 0, 6_973, 708_472 - 6_973));
     assert_eq!(stamped(Planted::RefusedStamped, &image()), (0, 0, 6_973, 708_472));
     assert_eq!(stamped(Planted::RefusedStamped, &damaged(&[(4, 0)])), (2, 4, 6_970, 708_472 - 3 * 214));
+}
+
+/// What writing or reading a file answers and writes, with so much room.
+fn filed(planted: Planted, filing: Filing, lent: &[u8], (w, p): (u64, u64), room: usize) -> (Answer, Vec<u8>) {
+    let mut out = vec![200; room];
+    let answer = file_pages(planted, filing, lent, (w, p), &mut out, &mut Notes::new());
+    assert!(out[answer.written as usize..].iter().all(|byte| *byte == 200), "beyond the written bytes as it was");
+    out.truncate(answer.written as usize);
+    (answer, out)
+}
+
+/// Number and place of a layout, and of the same as a file: both are judged by the same rules.
+fn judged(planted: Planted, layout: &[u8], w: u64, p: u64) -> (u8, u64) {
+    let file: Vec<u8> = layout
+        .iter()
+        .map(|byte| match byte {
+            0 => b' ',
+            1 => b'A',
+            36 => b'-',
+            17 => b'E',
+            64 => b'\n',
+            65 => b'\x0c',
+            _ => b'~',
+        })
+        .collect();
+    let [one, other] = [(Filing::Write, layout), (Filing::Read, &file[..])]
+        .map(|(filing, lent)| filed(planted, filing, lent, (w, p), 1000).0);
+    assert_eq!((one.number, one.place), (other.number, other.place), "{layout:?}");
+    (one.number, one.place)
+}
+
+/// Request 5 of document 02: the layouts of the paper's twelve examples, written and read back, and
+/// what the files of some are.
+#[test]
+fn files_there_and_back() {
+    let files: [(&[u8], &[u8]); 4] = [
+        (b"COME", b"-E\n\x0c"),
+        (b"AAAA AAAA", b"AAAA\nAAAA\n\x0c"),
+        (b"A$S$SB", b"A\n\n\x0cB\n\x0c"),
+        (b"$PA", b"  A\n\x0c"),
+    ];
+    for (text, file) in files {
+        let (_, layout) = ask(text, 8, 2, 100);
+        assert_eq!(filed(Planted::Nothing, Filing::Write, &layout, (8, 2), 100).1, file);
+    }
+    for text in ["", "COME", "BECOME", "FULFUL", "BLIND", "BLINDED", "A.   B", "AAAA AAA", "$N$N"] {
+        let (_, layout) = ask(text.as_bytes(), 8, 2, 100);
+        let (answer, file) = filed(Planted::Nothing, Filing::Write, &layout, (8, 2), layout.len());
+        assert_eq!(answer, Answer { written: layout.len() as u64, ..Answer::default() });
+        let (answer, again) = filed(Planted::Nothing, Filing::Read, &file, (8, 2), layout.len());
+        assert_eq!(answer, Answer { written: layout.len() as u64, ..Answer::default() });
+        assert_eq!(again, layout);
+    }
+}
+
+/// Each cell is written as its character of the chart, and each other byte but line feed and form
+/// feed stands for nothing, lower-case letters too.
+#[test]
+fn each_character() {
+    let chart = b" A1B'K2L@CIF/MSP\"E3H9O6R^DJG>NTQ,*5<-U8V.%[$+X!&;:4\\0Z7(_?W]#Y)=";
+    for byte in 0..=255 {
+        // The cell A follows, so that a blank may stand here.
+        let (answer, file) = filed(Planted::Nothing, Filing::Write, &[byte, 1, 64, 65], (8, 2), 4);
+        match chart.get(byte as usize) {
+            Some(character) => assert_eq!(file, [*character, b'A', 10, 12]),
+            None if byte == 64 => assert_eq!(file, [10, b'A', 10, 12]),
+            None => assert_eq!(answer, refused(16, 0), "{byte}"),
+        }
+        let (answer, layout) = filed(Planted::Nothing, Filing::Read, &[byte, b'A', 10, 12], (8, 2), 4);
+        match chart.iter().position(|character| *character == byte) {
+            Some(cell) => assert_eq!(layout, [cell as u8, 1, 64, 65]),
+            None if byte == 10 => assert_eq!(layout, [64, 1, 64, 65]),
+            None => assert_eq!(answer, refused(16, 0), "{byte}"),
+        }
+    }
+}
+
+/// Good layouts and files, wrong ones with their places, and each refusal before the next.
+#[test]
+fn wrong_files() {
+    let judge = |layout: &[u8]| judged(Planted::Nothing, layout, 8, 2);
+    // Good: nothing; empty lines; a full line; a blank in column 6; two pages.
+    for layout in [
+        &[][..],
+        &[64, 65],
+        &[64, 64, 65],
+        &[1, 1, 1, 1, 1, 1, 1, 1, 64, 65],
+        &[1, 1, 1, 1, 1, 1, 0, 1, 64, 65],
+        &[1, 64, 65, 36, 64, 17, 64, 65],
+    ] {
+        assert_eq!(judge(layout), (0, 0), "{layout:?}");
+    }
+    // A byte that stands for nothing, wherever it is.
+    assert_eq!(judge(&[66]), (16, 0));
+    assert_eq!(judge(&[36, 17, 66, 64, 65]), (16, 2));
+    assert_eq!(judge(&[36, 17, 64, 65, 66]), (16, 4));
+    // A line over W, at its ninth cell; one that ends in a blank; a blank that no cell can follow.
+    assert_eq!(judge(&[1, 1, 1, 1, 1, 1, 1, 1, 1, 64, 65]), (16, 8));
+    assert_eq!(judge(&[1, 1, 1, 1, 1, 1, 1, 1, 0, 64, 65]), (16, 8));
+    assert_eq!(judge(&[36, 0, 64, 65]), (16, 2));
+    assert_eq!(judge(&[0, 64, 65]), (16, 1));
+    assert_eq!(judge(&[1, 1, 1, 1, 1, 1, 1, 0, 64, 65]), (16, 7));
+    assert_eq!(judge(&[1, 1, 1, 1, 1, 1, 1, 0]), (16, 7));
+    // A page over P, by a line and by a cell; a page without a line, first and later; a page's end
+    // inside a line.
+    assert_eq!(judge(&[1, 64, 1, 64, 64, 65]), (16, 4));
+    assert_eq!(judge(&[1, 64, 1, 64, 1, 64, 65]), (16, 4));
+    assert_eq!(judge(&[65]), (16, 0));
+    assert_eq!(judge(&[1, 64, 65, 65]), (16, 3));
+    assert_eq!(judge(&[1, 65]), (16, 1));
+    // It merely stops short: its length.
+    for layout in
+        [&[1][..], &[64], &[1, 0], &[1, 64, 1, 64], &[1, 64, 65, 1], &[1, 64, 65, 0], &[1, 1, 1, 1, 1, 1, 1, 1]]
+    {
+        assert_eq!(judge(layout), (16, layout.len() as u64), "{layout:?}");
+    }
+    // 5 first, 8 last.
+    for (w, p, number) in [(7, 2, 5), (8, 1, 5), (61, 2, 5), (8, 41, 5), (264, 2, 5), (60, 40, 0), (8, 2, 0)] {
+        assert_eq!(judged(Planted::Nothing, &[36, 17, 64, 65], w, p), (number, 0));
+    }
+    assert_eq!(judged(Planted::Nothing, &[66], 7, 2), (5, 0));
+    let room = |lent: &[u8], room| filed(Planted::Nothing, Filing::Read, lent, (8, 2), room).0;
+    assert_eq!(room(b"-E\n\x0c", 3), refused(8, 4));
+    assert_eq!(room(b"-E\n\x0c", 0), refused(8, 4));
+    assert_eq!(room(b"-E\n", 0), refused(16, 3));
+    assert_eq!(room(b"", 0), Answer::default());
+}
+
+/// The errors that request 5 of document 02 invites.
+#[test]
+fn errors_of_the_files() {
+    let read = |planted, lent: &[u8]| filed(planted, Filing::Read, lent, (8, 2), 100);
+    assert_eq!(read(Planted::Nothing, b"-e\n\x0c").0, refused(16, 1));
+    assert_eq!(read(Planted::LowerCaseFolded, b"-e\n\x0c").1, [36, 17, 64, 65]);
+    assert_eq!(judged(Planted::BlankAtLineEnd, &[36, 0, 64, 65], 8, 2), (0, 0));
+    assert_eq!(judged(Planted::PageOfNoLine, &[1, 64, 65, 65], 8, 2), (0, 0));
+    assert_eq!(judged(Planted::PlaceOneFurther, &[36, 0, 64, 65], 8, 2), (16, 3));
+    assert_eq!(judged(Planted::PlaceOneFurther, &[36, 0], 8, 2), (16, 2));
+    assert_eq!(judged(Planted::PageOverP, &[64, 64, 64, 65], 8, 2), (0, 0));
+    assert_eq!(judged(Planted::BlankFoundLate, &[1, 1, 1, 1, 1, 1, 1, 0, 64, 65], 8, 2), (16, 8));
+    let brackets = [42, 59, 64, 65];
+    assert_eq!(filed(Planted::Nothing, Filing::Write, &brackets, (8, 2), 4).1, b"[]\n\x0c");
+    assert_eq!(filed(Planted::CharactersExchanged, Filing::Write, &brackets, (8, 2), 4).1, b"][\n\x0c");
+    assert_eq!(read(Planted::CharactersExchanged, b"[]\n\x0c").1, brackets);
+    assert_eq!(filed(Planted::RoomBeforeFile, Filing::Read, b"-E\n", (8, 2), 0).0, refused(8, 3));
 }

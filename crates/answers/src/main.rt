@@ -2,9 +2,10 @@
 // after another until it ends, and writes to standard output what the call that is asked answers to
 // each and every byte of the buffer that was lent. Numbers are low byte first.
 //
-// A case:     4 bytes  what is asked: 0 the whole call, 1 to date the table, 2 to undate it, 3 its stamp
+// A case:     4 bytes  what is asked: 0 the whole call, 1 to date the table, 2 to undate it, 3 its
+//                      stamp, 4 to write an embosser file, 5 to read one
 //             4 bytes  length of the table image, at most 65,536
-//             4 bytes  length of the text, at most 17,000
+//             4 bytes  length of the text, at most 163,840
 //             8 bytes  W, any 64-bit number
 //             8 bytes  P, any 64-bit number
 //             8 bytes  the symbol that follows the text, of which the first byte counts
@@ -15,18 +16,23 @@
 //             8 bytes  each: place, bytes written, pieces, lines, pages
 //             the whole buffer of `room` bytes after the call; before it byte i, counted from 0, was the low eight bits of 7 i + 13
 //
-// To date, to undate or to stamp a table, text, W, P, symbol and year are read and not looked at,
-// and pieces, lines and pages are 0; but the first number of a stamp stands in the place of the
-// bytes written, and the second in that of the pieces. A case over these limits, or one that the
-// input cuts short, gets no answer, and the run ends there. The file stdin beside this folder has
-// nine cases, and stdout their answers: by the paper's table COME with 8 bytes of room and `A|a`
-// with 4, and to date it with 246; by the dated one, COM from 1932 to 2015, COME in 2015 and in
-// 2016, and to undate it, refused 17; and with 4 bytes of room the stamps of the paper's table, of
-// the dated one, and of the paper's with a class of 0 in its second letter, refused 2.
+// To date, to undate or to stamp a table, text, W, P, symbol and year are read and not looked at.
+// To write or to read a file the text is the layout or the file that is lent, and image, symbol and
+// year are not looked at. For all five pieces, lines and pages are 0; but the first number of a
+// stamp stands in the place of the bytes written, and the second in that of the pieces. A case over
+// these limits, or one that the input cuts short, gets no answer, and the run ends there. The file
+// stdin beside this folder has fifteen cases, and stdout their answers: by the paper's table COME
+// with 8 bytes of room and `A|a` with 4, and to date it with 246; by the dated one, COM from 1932
+// to 2015, COME in 2015 and in 2016, and to undate it, refused 17; with 4 bytes of room the stamps
+// of the paper's table, of the dated one, and of the paper's with a class of 0 in its second
+// letter, refused 2; and with 6 bytes of room the file of COME's layout written and read back, a
+// layout with a line that ends in a blank and a file with a lower-case letter, each refused 16, the
+// same file at W 7, refused 5, and COME's with 3 bytes of room, refused 8.
 
 ghost use Prim.Native.Nat.{_≤_};
 ghost use Rattle.io.specs.Counts.{Counts};
 use dates::Moved;
+use embosser::Filed;
 use layout::Answer;
 use libc::STDIN_FILENO;
 use libc::STDOUT_FILENO;
@@ -156,6 +162,16 @@ fn write_stamped(answer: Stamped) -> bool {
         & write_eight(0)
 }
 
+// The answer of a file, written or read, which has no pieces, lines and pages.
+fn write_filed(answer: Filed) -> bool {
+    io::write_all(STDOUT_FILENO, &[answer.number()])
+        & write_eight(answer.place())
+        & write_eight(answer.written())
+        & write_eight(0)
+        & write_eight(0)
+        & write_eight(0)
+}
+
 // Reads the next `n` bytes of the input into the front of the buffer, and answers how many came;
 // none where the buffer hasn't the room.
 fn read_front(bytes: &mut [u8], n: usize) -> usize
@@ -195,6 +211,20 @@ fn stamp_beside(image: &[u8], out: &mut [u8]) -> bool {
     write_stamped(answer) & io::write_all(STDOUT_FILENO, out)
 }
 
+// Writes the file of a layout into a buffer.
+fn write_into(layout: &[u8], sheet: Sheet, out: &mut [u8]) -> bool {
+    prepare(out);
+    let answer = embosser::write_file(layout, sheet, out);
+    write_filed(answer) & io::write_all(STDOUT_FILENO, out)
+}
+
+// Reads a file into a buffer, as the layout it was written from.
+fn read_into(file: &[u8], sheet: Sheet, out: &mut [u8]) -> bool {
+    prepare(out);
+    let answer = embosser::read_file(file, sheet, out);
+    write_filed(answer) & io::write_all(STDOUT_FILENO, out)
+}
+
 // Answers one case into a buffer, by what it asks.
 fn answer_into(
     asked: usize,
@@ -213,7 +243,18 @@ fn answer_into(
     if asked == 2 {
         return undate_into(image, out);
     }
-    stamp_beside(image, out)
+    if asked == 3 {
+        return stamp_beside(image, out);
+    }
+    if asked == 4 {
+        return write_into(text, sheet, out);
+    }
+    read_into(text, sheet, out)
+}
+
+// Room for a text, or for a layout or a file in its place.
+fn large() -> [u8; 163840] {
+    [0u8; 163840]
 }
 
 // Answers one case with so much room.
@@ -236,9 +277,9 @@ fn answer(
 fn answer_with(head: Head) -> bool {
     let mut image = [0u8; 65536];
     let held = read_front(&mut image, head.image);
-    let mut text = [0u8; 17000];
+    let mut text = large();
     let length = read_front(&mut text, head.text);
-    if (held != head.image) | (length != head.text) | (3 < head.asked) {
+    if (held != head.image) | (length != head.text) | (5 < head.asked) {
         return false;
     }
     answer(

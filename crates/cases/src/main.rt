@@ -1,9 +1,11 @@
 // The papers' run cases: what the whole call answers at its limits, for refusals 1 to 8, 11 and 15
 // with their places, where two refusals hold at once, for words that are cut, by what follows the
-// text, and in years at the edges of an entry's; and the stamps of the table in both forms. Each
-// case prints its answer in the form of `brailleout`. Some go on with the cells and pages; the
-// others say whether the bytes lent are as they were. A stamp's line has number, place and its two
-// numbers.
+// text, and in years at the edges of an entry's; the stamps of the table in both forms; and files
+// written and read, with refusals 5, 16 and 8. Each case prints its answer in the form of
+// `brailleout`. Some go on with the cells and pages; the others say whether the bytes lent are as
+// they were. A stamp's line has number, place and its two numbers; a file's has number, place and
+// the bytes written, and goes on with the six bytes lent, 170 each before the call.
+use embosser::Filed;
 use libc::STDOUT_FILENO;
 use pages::Sheet;
 use translation::Setting;
@@ -51,10 +53,8 @@ fn as_lent(bytes: &[u8]) -> bool {
     true
 }
 
-// The answer, and whether the output is as lent.
-fn tell(setting: Setting, image: &[u8], text: &[u8], sheet: Sheet, out: &mut [u8]) {
-    let answer = layout::emboss(setting, image, text, sheet, out);
-    console::print_answer(answer);
+// Whether the output is as lent.
+fn print_kept(out: &[u8]) {
     if as_lent(out) {
         io::write_all(STDOUT_FILENO, &[b'k', b'e', b'p', b't', b'\n']);
     } else {
@@ -63,6 +63,13 @@ fn tell(setting: Setting, image: &[u8], text: &[u8], sheet: Sheet, out: &mut [u8
             &[b'w', b'r', b'i', b't', b't', b'e', b'n', b'\n'],
         );
     }
+}
+
+// The answer, and whether the output is as lent.
+fn tell(setting: Setting, image: &[u8], text: &[u8], sheet: Sheet, out: &mut [u8]) {
+    let answer = layout::emboss(setting, image, text, sheet, out);
+    console::print_answer(answer);
+    print_kept(out);
 }
 
 // As `tell`, with a blank following and 65,536 bytes lent.
@@ -83,6 +90,55 @@ fn stamped(image: &[u8]) {
     print_value(answer.place() as u64, b' ');
     print_value(answer.first() as u64, b' ');
     print_value(answer.second() as u64, b'\n');
+}
+
+// The answer of a file, written or read.
+fn print_filed(answer: Filed) {
+    print_value(answer.number() as u64, b' ');
+    print_value(answer.place() as u64, b' ');
+    print_value(answer.written() as u64, b'\n');
+}
+
+fn print_byte(byte: u8, after: u8) {
+    print_value(byte as u64, after);
+}
+
+fn print_six(bytes: &[u8; 6]) {
+    print_byte(bytes[0], b' ');
+    print_byte(bytes[1], b' ');
+    print_byte(bytes[2], b' ');
+    print_byte(bytes[3], b' ');
+    print_byte(bytes[4], b' ');
+    print_byte(bytes[5], b'\n');
+}
+
+// A file written from a layout, with six bytes lent.
+fn written(layout: &[u8], sheet: Sheet) {
+    let mut out = [170u8; 6];
+    let answer = embosser::write_file(layout, sheet, &mut out);
+    print_filed(answer);
+    print_six(&out);
+}
+
+// A layout read from a file, with six bytes lent.
+fn read(file: &[u8], sheet: Sheet) {
+    let mut out = [170u8; 6];
+    let answer = embosser::read_file(file, sheet, &mut out);
+    print_filed(answer);
+    print_six(&out);
+}
+
+// A layout written and a file read into what is lent, and whether it is as lent.
+fn tell_written(layout: &[u8], sheet: Sheet, out: &mut [u8]) {
+    let answer = embosser::write_file(layout, sheet, out);
+    print_filed(answer);
+    print_kept(out);
+}
+
+fn tell_read(file: &[u8], sheet: Sheet, out: &mut [u8]) {
+    let answer = embosser::read_file(file, sheet, out);
+    print_filed(answer);
+    print_kept(out);
 }
 
 // Words that are cut, or just aren't: nine A (seven and the hyphen, then two); eight A (whole);
@@ -194,6 +250,68 @@ fn years(image: &[u8]) {
     stamped(&dated);
 }
 
+// COME's layout, 36 17 64 65, as the whole call wrote it, is written as `-E`, line feed and form
+// feed; that file is read back; nothing at all is a good layout and a good file.
+fn good_files(image: &[u8]) {
+    let mut come = [0u8; 4];
+    layout::emboss(
+        follows(b' '),
+        image,
+        &[b'C', b'O', b'M', b'E'],
+        sheet(8, 2),
+        &mut come,
+    );
+    written(&come, sheet(8, 2));
+    read(&[b'-', b'E', 10, 12], sheet(8, 2));
+    written(&[], sheet(8, 2));
+    read(&[], sheet(8, 2));
+}
+
+// Wrong files at W 8, P 2: a lower-case letter; a line that ends in a blank; a page without a line,
+// the first and a later one; a form feed inside a line; text after the last form feed (place the
+// length), and a file that stops short after a line; nine A (the ninth); seven A and a blank (the
+// blank, which no cell can follow); a third line.
+fn wrong_files() {
+    read(&[b'-', b'e', 10, 12], sheet(8, 2));
+    read(&[b'-', b' ', 10, 12], sheet(8, 2));
+    read(&[12], sheet(8, 2));
+    read(&[b'-', 10, 12, 12], sheet(8, 2));
+    read(&[b'-', b'E', 12], sheet(8, 2));
+    read(&[b'-', 10, 12, b'E'], sheet(8, 2));
+    read(&[b'-', b'E', 10], sheet(8, 2));
+    read(&[65, 65, 65, 65, 65, 65, 65, 65, 65], sheet(8, 2));
+    read(&[65, 65, 65, 65, 65, 65, 65, b' '], sheet(8, 2));
+    read(&[65, 10, 10, 65, 10, 12], sheet(8, 2));
+}
+
+// Wrong layouts, by the same rules: 66; a line that ends in a blank; a page without a line; cells
+// after the last 65 (place the length).
+fn wrong_layouts() {
+    written(&[36, 66, 64, 65], sheet(8, 2));
+    written(&[36, 0, 64, 65], sheet(8, 2));
+    written(&[65], sheet(8, 2));
+    written(&[36, 64, 65, 17], sheet(8, 2));
+}
+
+// W 7 and P 41, with a wrong file too; three bytes lent where four are needed, and four; a wrong
+// file with no byte lent.
+fn sizes_and_room() {
+    let come = [b'-', b'E', 10, 12];
+    written(&[36, 17, 64, 65], sheet(7, 2));
+    read(&[b'e'], sheet(8, 41));
+    tell_written(&[36, 17, 64, 65], sheet(8, 2), &mut [170; 3]);
+    tell_read(&come, sheet(8, 2), &mut [170; 3]);
+    tell_read(&come, sheet(8, 2), &mut [170; 4]);
+    tell_read(&[b'e'], sheet(8, 2), &mut [170; 0]);
+}
+
+fn files(image: &[u8]) {
+    good_files(image);
+    wrong_files();
+    wrong_layouts();
+    sizes_and_room();
+}
+
 fn all(image: &[u8]) {
     cut_words(image);
     words(image);
@@ -204,6 +322,7 @@ fn all(image: &[u8]) {
     sections(image);
     years(image);
     stamped(image);
+    files(image);
 }
 
 // A wrong byte: of a letter's class (2, at that byte), of the blank's symbol (3), of an entry's

@@ -65,3 +65,7 @@ module _ (sheet : Sheet) where
       go : (b : Bool) → sheetRight sheet ≡ b → Between leastWidth mostWidth (sheet .width) × Between leastLength mostLength (sheet .length)
       go true e = sizes-tell .0 e
       go false e = absurd (h (sizes-wrong e))
+
+  -- and sizes within their limits are right
+  pub sizes-within : Between leastWidth mostWidth (sheet .width) → Between leastLength mostLength (sheet .length) → sheetRight sheet ≡ true
+  sizes-within w l = sizes-tell .1 (w, l)

@@ -84,7 +84,7 @@ pages-read s (b ∷ bytes) = go (eqb b pageMark) (eqb b lineMark) refl refl (λ 
 
 -- ---- Bytes and lines of lists joined
 
-bytes-of-lines : (xs ys : List Line) → bytesOfLines (xs ++ ys) ≡ bytesOfLines xs ++ bytesOfLines ys
+pub bytes-of-lines : (xs ys : List Line) → bytesOfLines (xs ++ ys) ≡ bytesOfLines xs ++ bytesOfLines ys
 unfolding bytesOfLines
 bytes-of-lines [] ys = refl
 bytes-of-lines (x ∷ xs) ys = rw (append-assoc, bytes-of-lines xs ys)

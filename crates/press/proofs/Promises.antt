@@ -1,12 +1,21 @@
--- Any two results that the promise allows are equal: every byte of the output and each of the six values.
+-- Any two results that a promise allows are equal: every byte of the output and each of the stored values.
 use Prim.Native.Nat.{ℕ}
 use mathlib.Core.List.{List}
 use mathlib.Core.Path.{_≡_, sym, ap, _∙_}
 use Rattle.layout.proofs.Promises.{emboss-determined}
-use Rattle.press.specs.Promises.{sixValues, Pressed}
+use Rattle.embosser.specs.declared.Kind.{Kind}
+use Rattle.embosser.proofs.Promises.{files-determined}
+use Rattle.press.specs.Promises.{sixValues, Pressed, threeValues, Converted}
 
 pub tlopahuexi-emboss-determined : {image text : List ℕ} {following year W P : ℕ} {before : List ℕ} {x y u v : List ℕ} → Pressed image text following year W P before x u
     → Pressed image text following year W P before y v → (x ≡ y) × (u ≡ v)
 tlopahuexi-emboss-determined p q =
     let same = emboss-determined (p .embosses) (q .embosses) in
     (same .1, p .tells ∙ ap sixValues (same .0) ∙ sym (q .tells))
+
+-- `tlopahuexi_write_file`, `tlopahuexi_read_file`
+pub converted-determined : {kind : Kind} {bytes : List ℕ} {W P : ℕ} {before : List ℕ} {x y u v : List ℕ} → Converted kind bytes W P before x u
+    → Converted kind bytes W P before y v → (x ≡ y) × (u ≡ v)
+converted-determined p q =
+    let same = files-determined (p .files) (q .files) in
+    (same .1, p .tells ∙ ap threeValues (same .0) ∙ sym (q .tells))

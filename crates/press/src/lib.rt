@@ -1,8 +1,13 @@
-// The whole call for programs in other languages: `rt staticlib press` writes an archive that
-// defines it under its plain name. A slice crosses as its address, never null, and its length;
-// bytes that are lent as `out` or `answer` are lent as nothing else in the same call.
+// The calls for programs in other languages: `rt staticlib press` writes an archive that defines
+// them under their plain names. A slice crosses as its address, never null, and its length; bytes
+// that are lent as `out` or `answer` are lent as nothing else in the same call.
 
 ghost use Rattle.press.specs.Promises.{Pressed};
+
+mod filing;
+
+pub use filing::tlopahuexi_read_file;
+pub use filing::tlopahuexi_write_file;
 use layout::emboss;
 use pages::Sheet;
 use translation::Setting;

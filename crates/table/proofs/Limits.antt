@@ -14,7 +14,7 @@ use Rattle.table.specs.Refusals.{verdictNumber, verdictPlace}
 use Rattle.table.specs.Example.{always}
 use Rattle.table.specs.inside.Computing.{computing}
 use Rattle.table.specs.declared.Refusal.{Refusal}
-use Rattle.table.specs.declared.Refusal.the-variants.{Frame, Alphabet, Contraction, Context, Transition, Decision, NoBlank, Grouping, Size, LongText, Unknown, Following, Dated, Room}
+use Rattle.table.specs.declared.Refusal.the-variants.{Frame, Alphabet, Contraction, Context, Transition, Decision, NoBlank, Grouping, Size, LongText, Unknown, Following, File, Dated, Room}
 
 -- ---- An image from its parts, in the old form. The distances are those of the parts' lengths
 
@@ -187,7 +187,7 @@ judged c = let v = verdictOf (c .image) in (verdictNumber v, verdictPlace v)
 -- each answer that refuses, in the order in which they are met; one that has a place of its own is given 3
 refusals : List Refusal
 refusals =
-    Frame ∷ Alphabet 3 ∷ Contraction 3 ∷ Context 3 ∷ Transition 3 ∷ Decision 3 ∷ NoBlank ∷ Grouping 3 ∷ Size ∷ LongText ∷ Unknown 3 ∷ Following ∷ Dated 3 ∷ Room 3 ∷ []
+    Frame ∷ Alphabet 3 ∷ Contraction 3 ∷ Context 3 ∷ Transition 3 ∷ Decision 3 ∷ NoBlank ∷ Grouping 3 ∷ Size ∷ LongText ∷ Unknown 3 ∷ Following ∷ File 3 ∷ Dated 3 ∷ Room 3 ∷ []
 
 record LimitsAsWritten : Type 0 where
   -- a cell is a number 0 to 63
@@ -199,8 +199,8 @@ record LimitsAsWritten : Type 0 where
   largest-right : frameRight largest ≡ true
   largest-length : length largest ≡ 28301
   -- the columns 'No.' and 'Place'
-  numbers : map refusalNumber refusals ≡ 1 ∷ 2 ∷ 11 ∷ 12 ∷ 13 ∷ 14 ∷ 3 ∷ 4 ∷ 5 ∷ 6 ∷ 7 ∷ 15 ∷ 17 ∷ 8 ∷ []
-  places : map refusalPlace refusals ≡ 0 ∷ 3 ∷ 3 ∷ 3 ∷ 3 ∷ 3 ∷ 0 ∷ 3 ∷ 0 ∷ 16384 ∷ 3 ∷ 0 ∷ 3 ∷ 3 ∷ []
+  numbers : map refusalNumber refusals ≡ 1 ∷ 2 ∷ 11 ∷ 12 ∷ 13 ∷ 14 ∷ 3 ∷ 4 ∷ 5 ∷ 6 ∷ 7 ∷ 15 ∷ 16 ∷ 17 ∷ 8 ∷ []
+  places : map refusalPlace refusals ≡ 0 ∷ 3 ∷ 3 ∷ 3 ∷ 3 ∷ 3 ∷ 0 ∷ 3 ∷ 0 ∷ 16384 ∷ 3 ∷ 0 ∷ 3 ∷ 3 ∷ 3 ∷ []
 
 limits-as-written : LimitsAsWritten
 unfolding computing twoBytes imageOf marked lettersFrom full sized second entriesOf entered dated largest exchanged long case cases judged refusals

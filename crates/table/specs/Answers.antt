@@ -1,6 +1,6 @@
 -- 'What comes back', for the calls of every layer: the number and the place of each refusal.
 use Prim.Native.Nat.{ℕ}
-use Rattle.table.specs.Numbers.{numberFrame, numberAlphabet, numberContractions, numberContexts, numberTransitions, numberDecisions, numberNoBlank, numberGrouping, numberSize, numberLongText, numberUnknown, numberFollowing, numberDated, numberRoom, noPlace, mostText}
+use Rattle.table.specs.Numbers.{numberFrame, numberAlphabet, numberContractions, numberContexts, numberTransitions, numberDecisions, numberNoBlank, numberGrouping, numberSize, numberLongText, numberUnknown, numberFollowing, numberFile, numberDated, numberRoom, noPlace, mostText}
 use Rattle.table.specs.declared.Refusal.{Refusal}
 use Rattle.table.specs.declared.Refusal.the-variants as why
 
@@ -17,6 +17,7 @@ refusalNumber why.Size = numberSize
 refusalNumber why.LongText = numberLongText
 refusalNumber (why.Unknown at) = numberUnknown
 refusalNumber why.Following = numberFollowing
+refusalNumber (why.File at) = numberFile
 refusalNumber (why.Dated at) = numberDated
 refusalNumber (why.Room needed) = numberRoom
 
@@ -33,5 +34,6 @@ refusalPlace why.Size = noPlace
 refusalPlace why.LongText = mostText
 refusalPlace (why.Unknown at) = at
 refusalPlace why.Following = noPlace
+refusalPlace (why.File at) = at
 refusalPlace (why.Dated at) = at
 refusalPlace (why.Room needed) = needed

@@ -260,6 +260,10 @@ numberUnknown = 7
 abbrev pub numberFollowing : ℕ
 numberFollowing = 15
 
+-- a wrong file or layout
+abbrev pub numberFile : ℕ
+numberFile = 16
+
 abbrev pub numberDated : ℕ
 numberDated = 17
 

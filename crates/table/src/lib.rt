@@ -59,6 +59,7 @@ pub enum Refusal {
     LongText,
     Unknown(usize),
     Following,
+    File(usize),
     Dated(usize),
     Room(usize),
 }

@@ -21,6 +21,7 @@ impl Refusal {
             Refusal::LongText => 6,
             Refusal::Unknown(_) => 7,
             Refusal::Following => 15,
+            Refusal::File(_) => 16,
             Refusal::Dated(_) => 17,
             Refusal::Room(_) => 8,
         }
@@ -43,6 +44,7 @@ impl Refusal {
             Refusal::LongText => 16384,
             Refusal::Unknown(at) => at,
             Refusal::Following => 0,
+            Refusal::File(at) => at,
             Refusal::Dated(at) => at,
             Refusal::Room(needed) => needed,
         }

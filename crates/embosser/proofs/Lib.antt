@@ -1,0 +1,12 @@
+pub mod Promises
+pub mod Charts
+pub mod Tables
+pub mod Steps
+pub mod Runs
+pub mod Judged
+pub mod Pages
+pub mod Outcomes
+pub mod Refusals
+pub mod Calls
+pub mod Emboss
+pub mod Example
