@@ -4,7 +4,7 @@
    It reads the table IMAGE, makes an English text of the documents, writes it to TEXT and what it is embossed as to LAYOUT, and prints
    what it and the placements before it measured. */
 #define _POSIX_C_SOURCE 200809L
-#include "press.h"
+#include "twins.h"
 #include <stdio.h>
 
 extern emboss_call twin_cc_o2, twin_cc_o3, twin_kit;

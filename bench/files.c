@@ -3,7 +3,7 @@
    usage: files TIMES LAYOUT
    It reads LAYOUT, which is the layout of a text on the sheet of rounds.h, and prints what it and the placements before it measured. */
 #define _POSIX_C_SOURCE 200809L
-#include "press.h"
+#include "twins.h"
 #include <stdio.h>
 
 extern file_call write_cc_o2, write_cc_o3, write_kit, read_cc_o2, read_cc_o3, read_kit;

@@ -1,7 +1,7 @@
 /* Embosser files in C: the file of a layout, and the layout of a file. It is what a C programmer would write: one loop that judges, by
    where it stands on the page, and one that writes. It needs no header but stdint.h, so that a compiler without a C library can compile
    it. */
-#include "press.h"
+#include "twins.h"
 
 typedef uint64_t size;
 

@@ -20,6 +20,10 @@ extern void tlopahuexi_write_file(const byte *layout, size layout_length, size w
                                   unsigned long answer[3]);
 extern void tlopahuexi_read_file(const byte *file, size file_length, size width, size length, byte *out, size out_length,
                                  unsigned long answer[3]);
+extern void tlopahuexi_check(const byte *image, size image_length, unsigned long answer[2]);
+extern void tlopahuexi_stamp(const byte *image, size image_length, unsigned long answer[4]);
+extern void tlopahuexi_date(const byte *image, size image_length, byte *out, size out_length, unsigned long answer[3]);
+extern void tlopahuexi_undate(const byte *image, size image_length, byte *out, size out_length, unsigned long answer[3]);
 
 enum { STACK = 1 << 20, MOST = 65536 };
 
@@ -48,6 +52,30 @@ static void *write_file(void *given)
 static void *read_file(void *given)
 {
     tlopahuexi_read_file(file, layout_length, 60, 40, out, sizeof out, answer);
+    return given;
+}
+
+static void *check(void *given)
+{
+    tlopahuexi_check(image, image_length, answer);
+    return given;
+}
+
+static void *stamp(void *given)
+{
+    tlopahuexi_stamp(image, image_length, answer);
+    return given;
+}
+
+static void *date(void *given)
+{
+    tlopahuexi_date(image, image_length, out, sizeof out, answer);
+    return given;
+}
+
+static void *undate(void *given)
+{
+    tlopahuexi_undate(out, answer[2], file, sizeof file, answer);
     return given;
 }
 
@@ -90,13 +118,17 @@ static int print_depth(void *(*run)(void *), const char *given, size bytes)
     return 1;
 }
 
-/* stack IMAGE TEXT..: the depth of a call for each text, and of writing and reading the file of its layout. */
+/* stack IMAGE TEXT..: the depth of each call about the image, of embossing each text, and of writing and reading the file of its
+   layout. */
 int main(int words, char **word)
 {
     int i;
     if (words < 3 || (image_length = contents(word[1], image)) == 0)
         return 2;
     empty = depth(nothing);
+    if (!print_depth(check, "image, check", image_length) || !print_depth(stamp, "image, stamp", image_length) ||
+        !print_depth(date, "image, date", image_length) || !print_depth(undate, "dated image, undate", answer[2]))
+        return 1;
     for (i = 2; i < words; i++) {
         text_length = contents(word[i], text);
         if (!print_depth(call, "text", text_length))

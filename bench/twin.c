@@ -1,7 +1,7 @@
 /* The proved call's algorithm in C, in the order of the crates: table, translation, pages, layout. It is what a C
    programmer would write: pointers to records, plain loops, no test whether an index lies within the image, no clearing of buffers that
    are written before they are read. It needs no header but stdint.h, so that a compiler without a C library can compile it. */
-#include "press.h"
+#include "twins.h"
 
 typedef uint64_t size;
 

@@ -37,15 +37,14 @@ fn read_some(fd: i32, bytes: &mut [u8]) -> isize {
     -1
 }
 
-// Reads until the buffer is full or the input ends. Where a read fails it says so, under the name.
-fn read_whole(fd: i32, name: &[u8], bytes: &mut [u8]) -> Reading
+// Reads until the buffer is full or the input ends.
+pub fn read_whole(fd: i32, bytes: &mut [u8]) -> Reading
     ensures { λ r. ⌜ Counts (r .count) (now (bytes .exit)) ⌝ }
 {
     let mut done = 0;
     while done < bytes.len() {
         let got = read_some(fd, &mut bytes[done..]);
         if got < 0 {
-            os::fail(name);
             return Reading {
                 count: 0,
                 failed: true,
@@ -66,11 +65,22 @@ fn read_whole(fd: i32, name: &[u8], bytes: &mut [u8]) -> Reading
     }
 }
 
-// Opens the file `cases.tab`, again where that is interrupted: a descriptor, or a negative number.
-fn open_table() -> i32 {
+// As `read_whole`. Where a read fails it says so, under the name.
+fn read_named(fd: i32, name: &[u8], bytes: &mut [u8]) -> Reading
+    ensures { λ r. ⌜ Counts (r .count) (now (bytes .exit)) ⌝ }
+{
+    let reading = read_whole(fd, bytes);
+    if reading.failed {
+        os::fail(name);
+    }
+    reading
+}
+
+// Opens a file for reading, again where that is interrupted: a descriptor, or a negative number.
+pub fn open_file(name: &[u8]) -> i32 {
     let mut left = TRIES;
     while left > 0 {
-        let fd = os::open_read(b"cases.tab");
+        let fd = os::open_read(name);
         if !interrupted(fd < 0) {
             return fd;
         }
@@ -84,14 +94,14 @@ fn open_table() -> i32 {
 pub fn read_table(image: &mut [u8; 32768]) -> Reading
     ensures { λ r. ⌜ Counts (r .count) (now (image .exit)) ⌝ }
 {
-    let fd = open_table();
+    let fd = open_file(b"cases.tab");
     if fd < 0 {
         return Reading {
             count: 0,
             failed: false,
         };
     }
-    let reading = read_whole(fd, b"cases.tab", image);
+    let reading = read_named(fd, b"cases.tab", image);
     libc::close(fd);
     reading
 }
@@ -100,17 +110,16 @@ pub fn read_table(image: &mut [u8; 32768]) -> Reading
 pub fn read_text(text: &mut [u8; 16385]) -> Reading
     ensures { λ r. ⌜ Counts (r .count) (now (text .exit)) ⌝ }
 {
-    read_whole(STDIN_FILENO, b"standard input", text)
+    read_named(STDIN_FILENO, b"standard input", text)
 }
 
-// One write to standard output, made again where it is interrupted: how many bytes it took, and 0
-// where it failed.
-fn write_some(bytes: &[u8]) -> usize
+// One write, made again where it is interrupted: how many bytes it took, and 0 where it failed.
+fn write_some(fd: i32, bytes: &[u8]) -> usize
     ensures { λ r. ⌜ Counts r (now (bytes .entry)) ⌝ }
 {
     let mut left = TRIES;
     while left > 0 {
-        let got = libc::write(STDOUT_FILENO, bytes);
+        let got = libc::write(fd, bytes);
         if !interrupted(got < 0) {
             return io::count(got, bytes);
         }
@@ -119,19 +128,27 @@ fn write_some(bytes: &[u8]) -> usize
     0
 }
 
-// Writes all of the bytes to standard output, and answers whether they went through. Where they
-// didn't it says so.
-fn print(bytes: &[u8]) -> bool {
+// Writes all of the bytes, and answers whether they went through.
+pub fn write_whole(fd: i32, bytes: &[u8]) -> bool {
     let mut done = 0;
     while done < bytes.len() {
-        let more = write_some(&bytes[done..]);
+        let more = write_some(fd, &bytes[done..]);
         if more == 0 {
-            os::fail(b"standard output");
             return false;
         }
         done += more;
     }
     true
+}
+
+// Writes all of the bytes to standard output, and answers whether they went through. Where they
+// didn't it says so.
+fn print(bytes: &[u8]) -> bool {
+    if write_whole(STDOUT_FILENO, bytes) {
+        return true;
+    }
+    os::fail(b"standard output");
+    false
 }
 
 fn print_blank() -> bool {

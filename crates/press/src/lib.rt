@@ -1,54 +1,73 @@
-// The calls for programs in other languages: `rt staticlib press` writes an archive that defines
-// them under their plain names. A slice crosses as its address, never null, and its length; bytes
-// that are lent as `out` or `answer` are lent as nothing else in the same call.
+// The program of the press room: it reads its arguments, a table and a text or a file, calls the
+// proved crates, writes what they made and explains what they refuse. Everything that decides
+// stands in those crates. One exported function does the whole run and answers the exit status: 0
+// done, 1 refused, 2 wrong usage, 3 a file that can't be opened, read or written. No contract can
+// say what files hold, so the functions promise only that they are safe and end; the runs are
+// compared (tests/press).
 
-ghost use Rattle.press.specs.Promises.{Pressed};
+mod asking;
+mod explaining;
+mod helping;
+mod keeping;
+mod reading;
+mod running;
+mod saying;
+mod showing;
+mod tabling;
 
-mod filing;
+// What is asked for.
+enum Command {
+    Emboss,
+    Preview,
+    Read,
+    Check,
+    Stamp,
+    Date,
+    Undate,
+    Help,
+    Version,
+    Unknown,
+}
 
-pub use filing::tlopahuexi_read_file;
-pub use filing::tlopahuexi_write_file;
-use layout::emboss;
-use pages::Sheet;
-use translation::Setting;
-
-// Embosses a text that is followed by the symbol `following`, which is only looked at, by the
-// entries in force in `year`, and stores the answer's six values: number, place, bytes written,
-// pieces, lines, pages. A refused call changes no byte of `out`, and a done one none beyond the
-// bytes written. It needs 83,000 bytes of stack, whatever it is asked (bench/stack): a thread that
-// calls it wants 96 KiB at least.
-#[no_mangle]
-pub extern "C" fn tlopahuexi_emboss(
-    image: &[u8],
-    text: &[u8],
-    following: u8,
-    year: u16,
+// The options, and what they are about: `first` and `second` are the numbers of the arguments that
+// are no options, `output` that of the file after -o, each 0 where there is none. `waiting` is the
+// option whose value comes next.
+struct Asked {
+    waiting: u8,
+    first: usize,
+    second: usize,
+    output: usize,
     width: usize,
-    length: usize,
-    out: &mut [u8],
-    answer: &mut [u64; 6],
-)
-    ensures { λ _. ⌜ Pressed (now (image .entry)) (now (text .entry)) following year width length (now (out .entry)) (now (out .exit)) (now (answer .exit)) ⌝ }
-{
-    let a = emboss(
-        Setting {
-            following: following,
-            year: year,
-        },
-        image,
-        text,
-        Sheet {
-            width: width,
-            length: length,
-        },
-        out,
-    );
-    *answer = [
-        a.number() as u64,
-        a.place() as u64,
-        a.written() as u64,
-        a.pieces() as u64,
-        a.lines() as u64,
-        a.pages() as u64,
-    ];
+    page: usize,
+    year: u16,
+    following: u8,
+}
+
+// What came of taking arguments: where it is wrong, it has been said.
+enum Taken {
+    Right(Asked),
+    Wrong,
+}
+
+// A number in decimal, if it is one.
+enum Number {
+    Is(usize),
+    Not,
+}
+
+// Runs the program on its arguments, and answers its exit status.
+#[no_mangle]
+pub extern "C" fn press_run() -> i32 {
+    let command = asking::take_first();
+    match command {
+        Command::Unknown => 2,
+        _ => run_rest(command),
+    }
+}
+
+fn run_rest(command: Command) -> i32 {
+    match asking::take_rest(command) {
+        Taken::Right(asked) => running::run(command, asked),
+        Taken::Wrong => 2,
+    }
 }

@@ -16,10 +16,10 @@ counts : (n : ℕ) (xs : List ℕ) → n ≤ length xs → Counts n xs
 counts n xs within = (within, sym (length-take-le n xs within))
 
 abbrev Inv-loop : tie.InvT-loop
-Inv-loop fd name bytes₀ done₀ bytes done = (length bytes ≡ length bytes₀) × (done ≤ length bytes)
+Inv-loop fd bytes₀ done₀ bytes done = (length bytes ≡ length bytes₀) × (done ≤ length bytes)
 
 abbrev μ-loop : tie.MeasureT-loop
-μ-loop fd name bytes₀ done₀ bytes done = length bytes - done
+μ-loop fd bytes₀ done₀ bytes done = length bytes - done
 
 loop-holds : tie.Need-loop-holds Inv-loop μ-loop
 loop-holds c = (refl, omega arith)
@@ -36,11 +36,8 @@ part-read-some-end c = omega arith
 read-some-requires : tie.Need-read-some-requires Inv-loop μ-loop
 read-some-requires c κs = search needs
 
-fail-requires : tie.Need-fail-requires Inv-loop μ-loop
-fail-requires c κs = search needs
-
 same-length : tie.Need-same-length Inv-loop μ-loop
-same-length c = omega (arith, c .before .before .before .bytes .given .1)
+same-length c = omega (arith, c .before .before .bytes .given .1)
 
 returns : tie.Need-returns Inv-loop μ-loop
 returns c = search needs
@@ -89,7 +86,6 @@ read-whole-spec =
     part-read-some-start
     part-read-some-end
     read-some-requires
-    fail-requires
     same-length
     returns
     sub-count

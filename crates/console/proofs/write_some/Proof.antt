@@ -6,10 +6,10 @@ use Rattle.console.proofs.write_some.Statement.{statement}
 use Rattle.console.proofs.write_some.Tie as tie
 
 abbrev Inv-loop : tie.InvT-loop
-Inv-loop bytes left₀ left = Unit {0}
+Inv-loop fd bytes left₀ left = Unit {0}
 
 abbrev μ-loop : tie.MeasureT-loop
-μ-loop bytes left₀ left = left
+μ-loop fd bytes left₀ left = left
 
 loop-holds : tie.Need-loop-holds Inv-loop μ-loop
 loop-holds c = tt

@@ -1,0 +1,50 @@
+-- `console::open_file` is safe and ends: the measure is how many tries are left.
+use borrow.Author.Needs.{needs}
+use native.Mathlib.Omega.{arith}
+use Rattle.console.proofs.open_file.Statement.{statement}
+use Rattle.console.proofs.open_file.Tie as tie
+
+abbrev Inv-loop : tie.InvT-loop
+Inv-loop name left₀ left = Unit {0}
+
+abbrev μ-loop : tie.MeasureT-loop
+μ-loop name left₀ left = left
+
+loop-holds : tie.Need-loop-holds Inv-loop μ-loop
+loop-holds c = tt
+
+open-read-requires : tie.Need-open-read-requires Inv-loop μ-loop
+open-read-requires c κs = search needs
+
+interrupted-requires : tie.Need-interrupted-requires Inv-loop μ-loop
+interrupted-requires c κs = search needs
+
+returns : tie.Need-returns Inv-loop μ-loop
+returns c = search needs
+
+sub-left : tie.Need-sub-left Inv-loop μ-loop
+sub-left c = omega arith
+
+loop-less : tie.Need-loop-less Inv-loop μ-loop
+loop-less c = omega arith
+
+loop-again : tie.Need-loop-again Inv-loop μ-loop
+loop-again c = tt
+
+returns-2 : tie.Need-returns-2 Inv-loop μ-loop
+returns-2 c = search needs
+
+pub open-file-spec : {M : Type 1} → statement M
+open-file-spec =
+    tie.close
+    (tie.spec
+    Inv-loop
+    μ-loop
+    loop-holds
+    open-read-requires
+    interrupted-requires
+    returns
+    sub-left
+    loop-less
+    loop-again
+    returns-2)

@@ -1,0 +1,309 @@
+// The commands: each reads what it is about, calls the proved crates, and writes the result or
+// explains the refusal. Each answers the exit status.
+
+use crate::Asked;
+use crate::Command;
+use crate::asking::take_command;
+use crate::explaining::front;
+use crate::explaining::refused_file;
+use crate::explaining::refused_text;
+use crate::explaining::say_refused;
+use crate::helping::help;
+use crate::helping::version;
+use crate::keeping::keep;
+use crate::reading::read_argument;
+use crate::reading::read_text;
+use crate::saying::failed;
+use crate::saying::say;
+use crate::saying::say_argument;
+use crate::showing::show;
+use crate::tabling::print_stamp;
+use crate::tabling::print_table;
+use crate::tabling::refused_table;
+use pages::Sheet;
+use table::Verdict;
+use translation::Setting;
+
+// Room for a table file: no right image has more than 28,301 bytes.
+fn table_room() -> [u8; 32769] {
+    [0u8; 32769]
+}
+
+// Room for a text, with one byte more than it may have.
+fn text_room() -> [u8; 16385] {
+    [0u8; 16385]
+}
+
+// Room for a layout, of which no text needs more than 147,500 bytes, and for its file.
+fn layout_room() -> [u8; 163840] {
+    [0u8; 163840]
+}
+
+// Room for a file that is read.
+fn file_room() -> [u8; 524289] {
+    [0u8; 524289]
+}
+
+fn sheet_of(asked: Asked) -> Sheet {
+    Sheet {
+        width: asked.width,
+        length: asked.page,
+    }
+}
+
+fn setting_of(asked: Asked) -> Setting {
+    Setting {
+        following: asked.following,
+        year: asked.year,
+    }
+}
+
+// Whether a refusal is one of a table: 1, 2, 11 to 14, 3, 4.
+fn is_of_table(number: u8) -> bool {
+    (number <= 4) | ((11 <= number) & (number <= 14))
+}
+
+fn table_long(i: usize) -> i32 {
+    say(b"press: refused 1 at 0: ");
+    say_argument(i);
+    say(b" has more than 32,768 bytes, and no right table image has more than 28,301\n");
+    1
+}
+
+// ---- Emboss and preview
+
+// The layout is shown, or its file kept.
+fn deliver(command: Command, asked: Asked, layout: &[u8]) -> i32 {
+    match command {
+        Command::Preview => {
+            if show(layout) {
+                return 0;
+            }
+            failed(b"standard output")
+        }
+        _ => {
+            let mut file = layout_room();
+            let filed = embosser::write_file(layout, sheet_of(asked), &mut file);
+            if filed.number() != 0 {
+                return refused_file(filed.number(), filed.place(), layout, sheet_of(asked));
+            }
+            keep(asked.output, front(&file, filed.written()))
+        }
+    }
+}
+
+fn emboss_text(command: Command, asked: Asked, image: &[u8], text: &[u8]) -> i32 {
+    let mut out = layout_room();
+    let answer = layout::emboss(setting_of(asked), image, text, sheet_of(asked), &mut out);
+    let number = answer.number();
+    if number == 0 {
+        return deliver(command, asked, front(&out, answer.written()));
+    }
+    if is_of_table(number) {
+        return refused_table(number, answer.place(), image);
+    }
+    refused_text(
+        number,
+        answer.place(),
+        text,
+        asked.following,
+        sheet_of(asked),
+    )
+}
+
+fn emboss(command: Command, asked: Asked) -> i32 {
+    let mut image = table_room();
+    let table = read_argument(asked.first, &mut image);
+    if table.failed {
+        return 3;
+    }
+    if 32768 < table.count {
+        return table_long(asked.first);
+    }
+    let mut text = text_room();
+    let reading = read_text(asked.second, &mut text);
+    if reading.failed {
+        return 3;
+    }
+    emboss_text(
+        command,
+        asked,
+        front(&image, table.count),
+        front(&text, reading.count),
+    )
+}
+
+// ---- Read
+
+fn read_file(asked: Asked, file: &[u8]) -> i32 {
+    let mut out = file_room();
+    let filed = embosser::read_file(file, sheet_of(asked), &mut out);
+    if filed.number() != 0 {
+        return refused_file(filed.number(), filed.place(), file, sheet_of(asked));
+    }
+    if show(front(&out, filed.written())) {
+        return 0;
+    }
+    failed(b"standard output")
+}
+
+fn read(asked: Asked) -> i32 {
+    let mut file = file_room();
+    let reading = read_argument(asked.first, &mut file);
+    if reading.failed {
+        return 3;
+    }
+    if 524288 < reading.count {
+        say(b"press: ");
+        say_argument(asked.first);
+        say(b" has more than 524,288 bytes, which is more than this program has room for\n");
+        return 3;
+    }
+    read_file(asked, front(&file, reading.count))
+}
+
+// ---- Tables
+
+fn check_table(asked: Asked, image: &[u8]) -> i32 {
+    match table::check(image) {
+        Verdict::Accepted => {
+            if print_table(image, asked.year) {
+                return 0;
+            }
+            failed(b"standard output")
+        }
+        Verdict::Refused(r) => refused_table(r.number(), r.place(), image),
+    }
+}
+
+fn stamp_table(image: &[u8]) -> i32 {
+    let stamped = stamp::stamp(image);
+    if stamped.number() != 0 {
+        return refused_table(stamped.number(), stamped.place(), image);
+    }
+    if print_stamp(stamped) {
+        return 0;
+    }
+    failed(b"standard output")
+}
+
+// A mover refuses a table with 1 where it is wrong, and where it has the other form already.
+fn not_moved(number: u8, place: usize, image: &[u8], form: &[u8]) -> i32 {
+    if number == 1 {
+        if let Verdict::Accepted = table::check(image) {
+            say_refused(number, place);
+            say(b": this table has the ");
+            say(form);
+            say(b" form already\n");
+            return 1;
+        }
+    }
+    refused_table(number, place, image)
+}
+
+fn date_table(asked: Asked, image: &[u8]) -> i32 {
+    let mut out = table_room();
+    let moved = dates::date(image, &mut out);
+    if moved.number() != 0 {
+        return not_moved(moved.number(), moved.place(), image, b"dated");
+    }
+    keep(asked.output, front(&out, moved.written()))
+}
+
+fn undate_table(asked: Asked, image: &[u8]) -> i32 {
+    let mut out = table_room();
+    let moved = dates::undate(image, &mut out);
+    if moved.number() != 0 {
+        return not_moved(moved.number(), moved.place(), image, b"old");
+    }
+    keep(asked.output, front(&out, moved.written()))
+}
+
+fn with_table(command: Command, asked: Asked, image: &[u8]) -> i32 {
+    match command {
+        Command::Check => check_table(asked, image),
+        Command::Stamp => stamp_table(image),
+        Command::Date => date_table(asked, image),
+        _ => undate_table(asked, image),
+    }
+}
+
+fn on_table(command: Command, asked: Asked) -> i32 {
+    let mut image = table_room();
+    let table = read_argument(asked.first, &mut image);
+    if table.failed {
+        return 3;
+    }
+    if 32768 < table.count {
+        return table_long(asked.first);
+    }
+    with_table(command, asked, front(&image, table.count))
+}
+
+// ---- Any command
+
+fn usage(words: &[u8]) -> i32 {
+    say(b"press: ");
+    say(words);
+    say(b"\n");
+    2
+}
+
+// Commands that write a file, and those that have to.
+fn takes_output(command: Command) -> bool {
+    match command {
+        Command::Emboss => true,
+        Command::Date => true,
+        Command::Undate => true,
+        _ => false,
+    }
+}
+
+fn wants_output(command: Command) -> bool {
+    match command {
+        Command::Date => true,
+        Command::Undate => true,
+        _ => false,
+    }
+}
+
+fn help_on(i: usize) -> i32 {
+    if i == 0 {
+        return help(Command::Help);
+    }
+    let command = take_command(i);
+    if let Command::Unknown = command {
+        return 2;
+    }
+    help(command)
+}
+
+fn run_on(command: Command, asked: Asked) -> i32 {
+    match command {
+        Command::Emboss => emboss(command, asked),
+        Command::Preview => emboss(command, asked),
+        Command::Read => read(asked),
+        _ => on_table(command, asked),
+    }
+}
+
+fn run_checked(command: Command, asked: Asked) -> i32 {
+    if asked.first == 0 {
+        return usage(b"there is no name of a table or a file; press help shows where it goes");
+    }
+    if (asked.output != 0) & !takes_output(command) {
+        return usage(b"-o goes with emboss, date and undate alone");
+    }
+    if (asked.output == 0) & wants_output(command) {
+        return usage(b"date and undate want -o and the name of a file");
+    }
+    run_on(command, asked)
+}
+
+pub(crate) fn run(command: Command, asked: Asked) -> i32 {
+    match command {
+        Command::Help => help_on(asked.first),
+        Command::Version => version(),
+        _ => run_checked(command, asked),
+    }
+}
