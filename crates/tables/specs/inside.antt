@@ -1,0 +1,5 @@
+pub mod Steps
+pub mod Lines
+pub mod Puts
+pub mod Writing
+pub mod Computing
