@@ -1,0 +1,11 @@
+pub mod Characters
+pub mod Glyphs
+pub mod ComesNext
+pub mod Steps
+pub mod Walk
+pub mod Kept
+pub mod Plain
+pub mod Parts
+pub mod Calls
+pub mod Promises
+pub mod Example
