@@ -5,11 +5,12 @@
 
 #include "../include/tlopahuexi.h"
 
-/* What a call stores in answer, in this order. A call about a file stores the first three. */
+/* What a call stores in answer, in this order. A call about a file, or about inkprint, stores the first three. */
 enum { NUMBER, PLACE, WRITTEN, PIECES, LINES, PAGES, VALUES, FILE_VALUES = PIECES };
 
 typedef __typeof__(tlopahuexi_emboss) emboss_call;
 typedef __typeof__(tlopahuexi_write_file) file_call;
+typedef __typeof__(tlopahuexi_mark) mark_call;
 
 /* The twins; a driver may hold each several times, compiled in another way and under another name. */
 #ifndef TWIN
@@ -22,5 +23,10 @@ extern emboss_call TWIN;
 #define TWIN_READ twin_read_file
 #endif
 extern file_call TWIN_WRITE, TWIN_READ;
+
+#ifndef TWIN_MARK
+#define TWIN_MARK twin_mark
+#endif
+extern mark_call TWIN_MARK;
 
 #endif

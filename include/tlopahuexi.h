@@ -36,7 +36,9 @@ enum tlopahuexi_value {
     TLOPAHUEXI_LINES = 4,   /* the lines written */
     TLOPAHUEXI_PAGES = 5,   /* the pages written */
     TLOPAHUEXI_FIRST = 2,   /* the first number of a stamp */
-    TLOPAHUEXI_SECOND = 3   /* the second */
+    TLOPAHUEXI_SECOND = 3,  /* the second */
+    TLOPAHUEXI_LINE = 3,    /* the line of a place in a readable table, from 1, where it isn't of the form */
+    TLOPAHUEXI_COLUMN = 4   /* its column, from 1 */
 };
 
 /* The refusals, in the order in which they are tried, and the place of each. README.md says what to
@@ -109,6 +111,26 @@ void tlopahuexi_date(const uint8_t *image, uint64_t image_length, uint8_t *out, 
 /* Moves a table with years, each entry always in force, to the form without; otherwise as
    tlopahuexi_date. Refusals: 1, also to a table without years, 2, 11 to 14, 3, 4, 17, 8. */
 void tlopahuexi_undate(const uint8_t *image, uint64_t image_length, uint8_t *out, uint64_t out_length, uint64_t answer[3]);
+
+/* Writes an accepted table image, of either form, as a readable table (docs/TABLES.md).
+   out     gets the text; 163,840 bytes are enough for any table
+   answer  number, place, bytes written, 0, 0
+   Refusals: as tlopahuexi_check, then 8. */
+void tlopahuexi_show(const uint8_t *image, uint64_t image_length, uint8_t *out, uint64_t out_length, uint64_t answer[5]);
+
+/* Makes the table image of a readable table. The image may be one that tlopahuexi_check refuses, but
+   never with 1.
+   out     gets the image; 28,301 bytes are enough for any
+   answer  number, place, bytes written, and of 22 the line and the column of the place
+   Refusals: 22, then 8. */
+void tlopahuexi_make(const uint8_t *text, uint64_t text_length, uint8_t *out, uint64_t out_length, uint64_t answer[5]);
+
+/* Marks inkprint, UTF-8, as the tables want a text (docs/ENGLISH.md).
+   out     gets the marked text; three times the length of the text are enough
+   answer  number, place, bytes written
+   Refusals: 6 for more than 1,073,741,824 bytes, 21 at a character that has no mark or a byte that is
+   no UTF-8, then 8. */
+void tlopahuexi_mark(const uint8_t *text, uint64_t text_length, uint8_t *out, uint64_t out_length, uint64_t answer[3]);
 
 #ifdef __cplusplus
 }

@@ -51,6 +51,22 @@ int main(int words, char **word)
     print("undate", 3);
     printf("%s\n", memcmp(image, undated, length) == 0 ? "as it was" : "another image");
 
+    tlopahuexi_show(dated, n, file, sizeof file, answer);
+    print("show", 5);
+    k = answer[TLOPAHUEXI_WRITTEN];
+    tlopahuexi_show(dated, n, file, k - 1, answer);
+    print("show, one byte short", 5);
+    tlopahuexi_make(file, k, back, sizeof back, answer);
+    print("make", 5);
+    printf("%s\n", memcmp(dated, back, n) == 0 ? "as it was" : "another image");
+    tlopahuexi_make(file, k - 5, back, sizeof back, answer);
+    print("make, cut", 5);
+    tlopahuexi_mark((const uint8_t *)"The caf\303\251", 9, file, sizeof file, answer);
+    print("mark", 3);
+    printf("%.*s\n", (int)answer[TLOPAHUEXI_WRITTEN], (const char *)file);
+    tlopahuexi_mark((const uint8_t *)"The \007", 5, file, sizeof file, answer);
+    print("mark, unknown", 3);
+
     tlopahuexi_emboss(dated, n, (const uint8_t *)"COME", 4, ' ', YEAR, WIDTH, LENGTH, layout, sizeof layout, answer);
     print("emboss", 6);
     k = answer[TLOPAHUEXI_WRITTEN];

@@ -7,6 +7,8 @@
 
 use crate::counts::Notes;
 use crate::files::file_case;
+use crate::ink::{marking, source};
+use crate::readable::{making, showing};
 use crate::reference::{emboss_planted, file_pages, move_table, stamp, Answer, Asked, Filing, Planted, Way};
 use crate::table::{Entry, Table, ALWAYS};
 
@@ -22,9 +24,11 @@ const LONGEST_TEXT: usize = 17_000;
 const MANY_ENTRIES: usize = 41;
 
 /// What is asked: the whole call, to move the table from one form to the other, or its stamp; to
-/// write a file of the text, which is a layout, or to read it as a file. Movers and stamp don't look
-/// at text, following symbol, year and sizes, and a stamp has no output; the files don't look at
-/// image, following symbol and year.
+/// write a file of the text, which is a layout, or to read it as a file; to show the table, or to make
+/// one of the text; to mark the text, which is inkprint, or where byte W of its marked text comes from.
+/// Movers, stamp and showing don't look at text, following symbol, year and sizes, and a stamp has no
+/// output; the files don't look at image, following symbol and year, making and marking look at the text
+/// alone, and a source has no output.
 #[derive(Clone, Copy, Debug, PartialEq, Eq)]
 pub enum Question {
     Emboss = 0,
@@ -33,6 +37,10 @@ pub enum Question {
     Stamp = 3,
     WriteFile = 4,
     ReadFile = 5,
+    Show = 6,
+    Make = 7,
+    Mark = 8,
+    Source = 9,
 }
 
 impl Question {
@@ -45,6 +53,10 @@ impl Question {
             Question::Stamp,
             Question::WriteFile,
             Question::ReadFile,
+            Question::Show,
+            Question::Make,
+            Question::Mark,
+            Question::Source,
         ];
         questions.get(number).copied()
     }
@@ -88,6 +100,10 @@ impl Case {
             Question::Stamp => stamp(planted, image, notes),
             Question::WriteFile => file_pages(planted, Filing::Write, text, (w, p), out, notes),
             Question::ReadFile => file_pages(planted, Filing::Read, text, (w, p), out, notes),
+            Question::Show => showing(image, out),
+            Question::Make => making(text, out),
+            Question::Mark => marking(text, out),
+            Question::Source => source(text, w),
         }
     }
 }
@@ -321,6 +337,36 @@ pub fn case(seed: u64) -> Case {
     case
 }
 
+/// A sound table for a readable text. Now and then a symbol of it is one that the form itself uses.
+pub fn some_table(random: &mut Random) -> Table {
+    let form = form(random, Question::Make);
+    let mut table = sound_table(random, form);
+    for new in *b"#_\\" {
+        let has = table.alphabet.iter().any(|letter| letter[0] == new);
+        let chosen = random.between(0, table.alphabet.len() - 1);
+        let old = table.alphabet[chosen][0];
+        if has || old == b' ' || !random.once_in(4) {
+            continue;
+        }
+        table.alphabet[chosen][0] = new;
+        for entry in &mut table.entries {
+            for symbol in &mut entry.string {
+                *symbol = if *symbol == old { new } else { *symbol };
+            }
+        }
+    }
+    table
+}
+
+/// The image of such a table, mostly sound.
+pub fn some_image(random: &mut Random) -> Vec<u8> {
+    let table = some_table(random);
+    if random.once_in(4) {
+        return image(random, &table, 65_535, &mut vec![]);
+    }
+    table.image()
+}
+
 /// What is asked: mostly the whole call.
 fn question(random: &mut Random, kinds: &mut Vec<Kind>) -> Question {
     let (kind, question) = match random.between(0, 99) {
@@ -361,7 +407,12 @@ fn form(random: &mut Random, question: Question) -> Form {
         (Question::Undate, 9..=13) => Form::One,
         (Question::Undate, 14..=16) => Form::Mixed,
         (Question::Undate, _) => Form::Old,
+        (Question::Show | Question::Make, 0..=6) => Form::Old,
+        (Question::Show | Question::Make, 7..=17) => Form::Mixed,
+        (Question::Show | Question::Make, 18) => Form::Always,
+        (Question::Show | Question::Make, _) => Form::One,
         (Question::WriteFile | Question::ReadFile, _) => unreachable!("a file has no table"),
+        (Question::Mark | Question::Source, _) => unreachable!("inkprint has no table"),
     }
 }
 

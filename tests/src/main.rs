@@ -7,7 +7,9 @@
 mod counts;
 mod files;
 mod generate;
+mod ink;
 mod programs;
+mod readable;
 mod reference;
 mod table;
 mod vectors;
@@ -22,8 +24,12 @@ use std::io::{Read, Write};
 use std::process::{exit, Command, Stdio};
 
 const USAGE: &str = "compare --seed S --cases N --program WORD [--program WORD ...] [--planted 1..30] [--batch N] [--all-counts]
+compare tables --seed S --cases N --program WORD [--program WORD ...] [--batch N]
+compare ink --seed S --cases N --program WORD [--program WORD ...] [--batch N]
 compare case SEED
 compare table FILE IMAGE
+compare shown IMAGE
+compare marked TEXT
 compare vectors FOLDER --program WORD [--program WORD ...]
 compare brailleout TABLE < TEXT
   The words after --program are the program and its arguments; the word self alone stands for the reference.";
@@ -37,7 +43,11 @@ fn main() {
     let ended = match words.as_slice() {
         ["--serve"] => serve(),
         ["case", seed] => show(seed),
+        ["shown", image] => print_shown(image),
+        ["marked", text] => print_marked(text),
         ["table", file, image] => write_image(file, image),
+        ["ink", rest @ ..] => Settings::read(rest).and_then(|settings| compare_ink(&settings)),
+        ["tables", rest @ ..] => Settings::read(rest).and_then(|settings| compare_tables(&settings)),
         ["brailleout", table] => programs::brailleout(table),
         ["vectors", folder, rest @ ..] => Settings::read(rest).and_then(|settings| vectors::run(folder, &settings.program)),
         rest => Settings::read(rest).and_then(|settings| compare(&settings)),
@@ -334,6 +344,59 @@ fn compare(settings: &Settings) -> Result<(), String> {
     report(settings, &counts, &notes)
 }
 
+/// The comparison of readable tables: images shown, texts made.
+fn compare_tables(settings: &Settings) -> Result<(), String> {
+    let mut met = readable::Met::new();
+    while met.cases < settings.cases {
+        let upto = settings.cases.min(met.cases + settings.batch);
+        let cases: Vec<Case> =
+            (met.cases..upto).map(|number| readable::case(case_seed(settings.seed, number))).collect();
+        let (answers, expected) = run_program(&settings.program, &cases, || expect(Planted::Nothing, &cases))?;
+        for ((case, answer), (own, _)) in cases.iter().zip(&answers).zip(&expected) {
+            if let Some(difference) = difference(answer, own) {
+                println!("case {} of the run: {:?}", met.cases + 1, case.question);
+                println!("image {:?}", case.image);
+                println!("text {:?}", String::from_utf8_lossy(&case.text));
+                return Err(format!("a difference: {difference}"));
+            }
+            met.meet(case, &own.0, &own.1)?;
+        }
+    }
+    none_is_zero(met.lines())
+}
+
+/// The comparison of inkprint: texts marked, and where a marked byte comes from.
+fn compare_ink(settings: &Settings) -> Result<(), String> {
+    let mut met = ink::Met::new();
+    while met.cases < settings.cases {
+        let upto = settings.cases.min(met.cases + settings.batch);
+        let cases: Vec<Case> = (met.cases..upto).map(|number| ink::case(case_seed(settings.seed, number))).collect();
+        let (answers, expected) = run_program(&settings.program, &cases, || expect(Planted::Nothing, &cases))?;
+        for ((case, answer), (own, _)) in cases.iter().zip(&answers).zip(&expected) {
+            if let Some(difference) = difference(answer, own) {
+                println!("case {} of the run: {:?}, W {}, room {}", met.cases + 1, case.question, case.w, case.room);
+                println!("text {:?}", String::from_utf8_lossy(&case.text));
+                println!("its bytes {:?}", case.text);
+                return Err(format!("a difference: {difference}"));
+            }
+            met.meet(case, &own.0, &own.1)?;
+        }
+    }
+    none_is_zero(met.lines())
+}
+
+/// Prints each count with its words, and fails where one is 0.
+fn none_is_zero(lines: Vec<(u64, String)>) -> Result<(), String> {
+    let mut zero = vec![];
+    for (count, words) in lines {
+        println!("{count:>10}  {words}");
+        if count == 0 {
+            zero.push(words);
+        }
+    }
+    if zero.is_empty() { Ok(()) } else { Err(format!("counts of zero: {}", zero.join(", "))) }
+}
+
 type Outcome = (Answer, Vec<u8>);
 
 fn expect(planted: Planted, cases: &[Case]) -> Vec<(Outcome, Notes)> {
@@ -410,8 +473,24 @@ fn show(seed: &str) -> Result<(), String> {
     Ok(())
 }
 
+fn print_shown(image: &str) -> Result<(), String> {
+    let image = std::fs::read(image).map_err(|why| format!("{image}: {why}"))?;
+    print!("{}", readable::show(&image));
+    Ok(())
+}
+
+fn print_marked(file: &str) -> Result<(), String> {
+    let text = std::fs::read(file).map_err(|why| format!("{file}: {why}"))?;
+    let mut out = vec![0; 4 * text.len()];
+    let answer = ink::marking(&text, &mut out);
+    if answer.number != 0 {
+        return Err(format!("{file}: refused {} at {}", answer.number, answer.place));
+    }
+    std::io::stdout().write_all(&out[..answer.written as usize]).map_err(|why| why.to_string())
+}
+
 fn write_image(file: &str, image: &str) -> Result<(), String> {
-    let words = std::fs::read_to_string(file).map_err(|why| format!("{file}: {why}"))?;
-    let table = table::read(&words).map_err(|why| format!("{file}: {why}"))?;
+    let text = std::fs::read(file).map_err(|why| format!("{file}: {why}"))?;
+    let table = readable::read_named(file, &text)?;
     std::fs::write(image, table.image()).map_err(|why| format!("{image}: {why}"))
 }

@@ -5,13 +5,14 @@ use crate::counts::Notes;
 use crate::reference::{
     emboss, emboss_planted, file_pages, move_table, second_in_full, stamp, Answer, Asked, Filing, Planted, Way,
 };
+use crate::readable;
 use crate::table;
 
 /// The paper's table has the old form, so it doesn't care about the year.
 const YEAR: u16 = 1970;
 
 fn image() -> Vec<u8> {
-    table::read(include_str!("../vectors/paper.table")).unwrap().image()
+    readable::read(include_bytes!("../../tables/paper.table")).unwrap().image()
 }
 
 fn ask(text: &[u8], w: u64, p: u64, room: usize) -> (Answer, Vec<u8>) {
@@ -185,7 +186,7 @@ fn the_first_of_two_wrong_bytes() {
 #[test]
 fn grouping() {
     let place_of = |strings: &[&str]| {
-        let mut table = table::read(include_str!("../vectors/paper.table")).unwrap();
+        let mut table = readable::read(include_bytes!("../../tables/paper.table")).unwrap();
         let model = table.entries[0].clone();
         table.entries = strings
             .iter()
@@ -202,9 +203,9 @@ fn grouping() {
 /// The paper's four errors, each by a text that shows it: what is right, and that the error gives another.
 #[test]
 fn errors_an_implementer_will_be_drawn_to() {
-    let paper = include_str!("../vectors/paper.table");
+    let paper = include_str!("../../tables/paper.table");
     let shows = |planted: Planted, table: &str, text: &str, right: &[u8]| {
-        let image = table::read(table).unwrap().image();
+        let image = readable::read(table.as_bytes()).unwrap().image();
         let ask = |planted| {
             let mut out = [0; 100];
             let asked = Asked { image: &image, text: text.as_bytes(), following: b' ', year: YEAR, w: 8, p: 2 };
@@ -412,8 +413,8 @@ fn what_follows_is_refused() {
     assert_eq!(ask_followed(b"BLIND", b'E', 8, 2, 6).0, refused(8, 7));
     assert_eq!(ask_followed(b"BLIND", b'.', 8, 2, 3).0, refused(8, 4));
     // After the table's own refusals; without a right context in the whole table too.
-    let unasked = include_str!("../vectors/paper.table").replace("entry BLIND 4 1 =", "entry BLIND 4 - =");
-    let unasked = table::read(&unasked).unwrap().image();
+    let unasked = include_str!("../../tables/paper.table").replace("entry BLIND 4 1 =", "entry BLIND 4 - =");
+    let unasked = readable::read(unasked.as_bytes()).unwrap().image();
     for (image, answer) in [(damaged(&[(203, b'F')]), refused(14, 203)), (unasked, refused(15, 0))] {
         let asked = Asked { image: &image, text: b"BLIND", following: b'a', year: YEAR, w: 8, p: 2 };
         assert_eq!(emboss(asked, &mut [0; 100], &mut Notes::new()), answer);
@@ -445,13 +446,13 @@ fn errors_of_what_follows() {
 
 /// The paper's table in the dated form, COM in force from 1932 to 2015.
 fn dated_image() -> Vec<u8> {
-    table::read(include_str!("../vectors/dated.table")).unwrap().image()
+    readable::read(include_bytes!("../../tables/dated.table")).unwrap().image()
 }
 
 /// The same with other years for COM, and for `$N`, the last record, which are 0 and 65,535 in the
 /// file.
 fn with_years(com: (u16, u16), last: (u16, u16)) -> Vec<u8> {
-    let mut table = table::read(include_str!("../vectors/dated.table")).unwrap();
+    let mut table = readable::read(include_bytes!("../../tables/dated.table")).unwrap();
     table.entries[0].years = com;
     table.entries[6].years = last;
     table.image()
@@ -548,10 +549,11 @@ fn years_are_counted_in() {
 #[test]
 fn entries_outside_their_years_give_way() {
     let image = |entries: &str| {
-        let table = include_str!("../vectors/paper.table").replace("entry COM   4 - = : 36", entries);
-        table::read(&table).unwrap().image()
+        let table = include_str!("../../tables/paper.table").replace("entry COM   4 - = : 36", entries);
+        let table = format!("dated\n{table}");
+        readable::read(table.as_bytes()).unwrap().image()
     };
-    let two = image("entry CO 4 - = : 9 9 @ - 1958\nentry COM 4 - = : 36 @ 1932 -");
+    let two = image("entry CO 4 - = : 9 9 to 1958\nentry COM 4 - = : 36 from 1932");
     let two_years: [(u16, &[u8]); 4] = [
         (1931, &[9, 9, 13, 64, 65]),
         (1932, &[9, 9, 13, 64, 65]),
@@ -562,7 +564,7 @@ fn entries_outside_their_years_give_way() {
         assert_eq!(ask_in(Planted::Nothing, &two, "COM", year).1, output, "{year}");
     }
     // The same string in two editions, with other signs in each, and none between them.
-    let same = image("entry COM 4 - = : 36 @ 1932 1958\nentry COM 4 - = : 9 13 @ 1960 2015");
+    let same = image("entry COM 4 - = : 36 from 1932 to 1958\nentry COM 4 - = : 9 13 from 1960 to 2015");
     let same_years: [(u16, &[u8]); 3] = [(1958, &[36, 64, 65]), (1959, &[9, 21, 13, 64, 65]), (1960, &[9, 13, 64, 65])];
     for (year, output) in same_years {
         assert_eq!(ask_in(Planted::Nothing, &same, "COM", year).1, output, "{year}");
@@ -625,14 +627,14 @@ fn wrong_dated_tables() {
     old[217] = 52;
     assert_eq!(check(&old), (1, 0));
     for mark in [51, 52] {
-        let mut table = table::read(include_str!("../vectors/paper.table")).unwrap();
+        let mut table = readable::read(include_bytes!("../../tables/paper.table")).unwrap();
         table.entries.clear();
         let mut image = table.image();
         *image.last_mut().unwrap() = mark;
         assert_eq!(check(&image), (0, 0));
     }
     // 11 records of the old form are as long as 9 of the dated.
-    let mut table = table::read(include_str!("../vectors/paper.table")).unwrap();
+    let mut table = readable::read(include_bytes!("../../tables/paper.table")).unwrap();
     table.entries.resize(11, table.entries[6].clone());
     let mut eleven = table.image();
     assert_eq!(check(&eleven), (0, 0));
@@ -640,7 +642,7 @@ fn wrong_dated_tables() {
     assert_eq!(check(&eleven).0, 11);
     // COM, FUL, COM: whatever the years.
     for (years, year) in [(ALWAYS, 1970), ((1932, 2015), 2016), ((1932, 2015), 1970), ((2016, 2020), 1970)] {
-        let mut table = table::read(include_str!("../vectors/dated.table")).unwrap();
+        let mut table = readable::read(include_bytes!("../../tables/dated.table")).unwrap();
         table.entries.insert(2, table.entries[0].clone());
         table.entries[2].years = years;
         assert_eq!(ask_in(Planted::Nothing, &table.image(), "A", year).0, refused(4, 57 + 44), "{years:?} {year}");
@@ -701,7 +703,7 @@ fn movers() {
         }
     }
     // Without a record the two forms differ in the last byte alone.
-    let mut table = table::read(include_str!("../vectors/paper.table")).unwrap();
+    let mut table = readable::read(include_bytes!("../../tables/paper.table")).unwrap();
     table.entries.clear();
     let (bare, mut bare_dated) = (table.image(), table.image());
     bare_dated[91] = 52;
@@ -759,7 +761,7 @@ fn errors_of_the_years() {
     shows(Planted::FirstYearOut, &dated_image(), 1932, (0, 0, 2), (0, 0, 4));
     shows(Planted::FirstYearOut, &dated_image(), 2015, (0, 0, 2), (0, 0, 2));
     // COM, FUL, COM, of which the last is out of force in 1970.
-    let mut table = table::read(include_str!("../vectors/dated.table")).unwrap();
+    let mut table = readable::read(include_bytes!("../../tables/dated.table")).unwrap();
     table.entries.insert(2, table.entries[0].clone());
     table.entries[2].years = (1971, 65_535);
     shows(Planted::GroupingInForce, &table.image(), 1970, (4, 101, 0), (0, 0, 2));

@@ -1,5 +1,5 @@
-//! A table as a person writes it, and the image made from it. The readable form has one record to a line;
-//! nothing here checks a table, since damaged ones are written too.
+//! A table as lists, and the image made from it. Nothing here checks a table, since damaged ones are written too;
+//! src/readable.rs reads one from its readable form.
 
 /// The years of an entry that is always in force.
 pub const ALWAYS: (u16, u16) = (0, 65_535);
@@ -88,74 +88,4 @@ impl Table {
         image.extend(trailer);
         image
     }
-}
-
-/// Reads the readable form. Lines, in any order but kept in order within their section:
-///
-/// ```text
-/// # a remark
-/// classes 5
-/// variables 1
-/// letter blank 2 0          symbol (a character, or the word blank), class, sign
-/// entry COM 4 - 3 : 36      string (_ for a blank), class, context or -, shift or =, signs
-/// entry COM 4 - = : 36 @ 1932 2015
-///                           the same with its first and last year, - for none
-/// dated                     the image has the dated form, as it has where an entry has years;
-///                           an entry without years is always in force
-/// context 2 3 3 3
-/// transition SR-SS
-/// decision GGGNY Y          one byte per class, then one per variable
-/// ```
-pub fn read(words: &str) -> Result<Table, String> {
-    let mut table = Table::default();
-    for (number, line) in words.lines().enumerate() {
-        let line_is_wrong = |what: &str| format!("line {}: {what}: {line}", number + 1);
-        let small = |word: &str| word.parse::<u8>().map_err(|_| line_is_wrong("not a small number"));
-        let year = |word: &str, none: u16| match word {
-            "-" => Ok(none),
-            _ => word.parse::<u16>().map_err(|_| line_is_wrong("not a year")),
-        };
-        let parts: Vec<&str> = line.split_whitespace().collect();
-        match parts.as_slice() {
-            [] => (),
-            [first, ..] if first.starts_with('#') => (),
-            ["classes", count] => table.classes = small(count)?,
-            ["variables", count] => table.variables = small(count)?,
-            ["letter", symbol, class, sign] => {
-                let symbol = if *symbol == "blank" { b' ' } else { symbol.as_bytes()[0] };
-                table.alphabet.push([symbol, small(class)?, small(sign)?]);
-            }
-            ["dated"] => table.dated = true,
-            ["entry", string, class, context, shift, ":", written @ ..] => {
-                let (written, years) = match written {
-                    [written @ .., "@", first, last] => {
-                        table.dated = true;
-                        (written, (year(first, ALWAYS.0)?, year(last, ALWAYS.1)?))
-                    }
-                    _ => (written, ALWAYS),
-                };
-                let string: Vec<u8> = string.bytes().map(|byte| if byte == b'_' { b' ' } else { byte }).collect();
-                if string.len() > 10 || written.len() > 4 {
-                    return Err(line_is_wrong("more than ten characters or four signs"));
-                }
-                let mut signs = [99; 4];
-                for (place, sign) in written.iter().enumerate() {
-                    signs[place] = small(sign)?;
-                }
-                table.entries.push(Entry {
-                    context: if *context == "-" { 0 } else { small(context)? },
-                    class: small(class)?,
-                    shift: if *shift == "=" { string.len() as u8 } else { small(shift)? },
-                    signs,
-                    years,
-                    string,
-                });
-            }
-            ["context", a, b, c, d] => table.contexts.push([small(a)?, small(b)?, small(c)?, small(d)?]),
-            ["transition", bytes] => table.transitions.push(bytes.bytes().collect()),
-            ["decision", bytes @ ..] => table.decisions.push(bytes.concat().into_bytes()),
-            _ => return Err(line_is_wrong("not a line of a table")),
-        }
-    }
-    Ok(table)
 }

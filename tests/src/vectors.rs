@@ -5,7 +5,8 @@
 use crate::counts::Notes;
 use crate::generate::{Case, Question};
 use crate::reference::Planted;
-use crate::{difference, lent_buffer, run_program, table};
+use crate::{difference, lent_buffer, run_program};
+use crate::readable;
 
 /// Runs every vector file of a folder: NAME.vectors with its NAME.table.
 pub fn run(folder: &str, program: &[String]) -> Result<(), String> {
@@ -23,7 +24,8 @@ pub fn run(folder: &str, program: &[String]) -> Result<(), String> {
         let read = |path: &std::path::Path| {
             std::fs::read_to_string(path).map_err(|why| format!("{}: {why}", path.display()))
         };
-        let image = table::read(&read(&file.with_extension("table"))?)?.image();
+        let table = file.with_extension("table");
+        let image = readable::read_named(&table.display().to_string(), read(&table)?.as_bytes())?.image();
         let vectors = vectors(&image, &read(&file)?)?;
         let cases: Vec<Case> = vectors.iter().map(|(case, _)| case.clone()).collect();
         let (answers, ()) = run_program(program, &cases, || ())?;
@@ -89,7 +91,7 @@ mod tests {
             (include_str!("../vectors/dictionary704.table"), include_str!("../vectors/dictionary704.vectors")),
         ];
         for (table, words) in files {
-            let image = table::read(table).unwrap().image();
+            let image = readable::read(table.as_bytes()).unwrap().image();
             for (case, printed) in vectors(&image, words).unwrap() {
                 let mut out = vec![0; case.room];
                 let answer = case.answer(Planted::Nothing, &mut out, &mut Notes::new());

@@ -3,7 +3,9 @@
 // each and every byte of the buffer that was lent. Numbers are low byte first.
 //
 // A case:     4 bytes  what is asked: 0 the whole call, 1 to date the table, 2 to undate it, 3 its
-//                      stamp, 4 to write an embosser file, 5 to read one
+//                      stamp, 4 to write an embosser file, 5 to read one, 6 to show the table, 7 to
+//                      make the table of the text, 8 to mark the text, 9 where byte W of the marked
+//                      text comes from
 //             4 bytes  length of the table image, at most 65,536
 //             4 bytes  length of the text, at most 163,840
 //             8 bytes  W, any 64-bit number
@@ -18,8 +20,11 @@
 //
 // To date, to undate or to stamp a table, text, W, P, symbol and year are read and not looked at.
 // To write or to read a file the text is the layout or the file that is lent, and image, symbol and
-// year are not looked at. For all five pieces, lines and pages are 0; but the first number of a
-// stamp stands in the place of the bytes written, and the second in that of the pieces. A case over
+// year are not looked at. To show a table nothing but the image is looked at, to make one nothing
+// but the text, and so it is with marking and its sources. For all of these pieces, lines and pages are 0; but the first number of a stamp stands
+// in the place of the bytes written, and the second in that of the pieces, and where a text isn't of
+// the form of a readable table its line, its column and what was expected stand in the place of
+// pieces, lines and pages. A case over
 // these limits, or one that the input cuts short, gets no answer, and the run ends there. The file
 // stdin beside this folder has fifteen cases, and stdout their answers: by the paper's table COME
 // with 8 bytes of room and `A|a` with 4, and to date it with 246; by the dated one, COM from 1932
@@ -33,11 +38,14 @@ ghost use Prim.Native.Nat.{_≤_};
 ghost use Rattle.io.specs.Counts.{Counts};
 use dates::Moved;
 use embosser::Filed;
+use ink::Inked;
 use layout::Answer;
 use libc::STDIN_FILENO;
 use libc::STDOUT_FILENO;
 use pages::Sheet;
 use stamp::Stamped;
+use tables::Drawn;
+use tables::Expected;
 use translation::Setting;
 
 // What a case asks, and its sizes.
@@ -172,6 +180,45 @@ fn write_filed(answer: Filed) -> bool {
         & write_eight(0)
 }
 
+fn small(n: u16) -> usize {
+    n as usize
+}
+
+// What was expected, as a number: the case, and its numbers above that.
+fn expected_number(expected: Expected) -> usize {
+    match expected {
+        Expected::Line(stage) => wide(stage) << 4,
+        Expected::Fewer => 1,
+        Expected::Number(least, most) => 2 | (small(least) << 4) | (small(most) << 20),
+        Expected::Symbol => 3,
+        Expected::Escaped => 4,
+        Expected::WordEnd => 5,
+        Expected::Row(n) => 6 | (small(n) << 4),
+        Expected::Colon => 7,
+        Expected::LineEnd => 8,
+        Expected::Letter => 9,
+        Expected::Transition => 10,
+    }
+}
+
+// The answer of a table shown or made.
+fn write_drawn(answer: Drawn) -> bool {
+    let told = io::write_all(STDOUT_FILENO, &[answer.number()])
+        & write_eight(answer.place())
+        & write_eight(answer.written());
+    match answer {
+        Drawn::Unlike {
+            at: _,
+            line: row,
+            column: character,
+            expected: wanted,
+        } => {
+            told & write_eight(row) & write_eight(character) & write_eight(expected_number(wanted))
+        }
+        _ => told & write_eight(0) & write_eight(0) & write_eight(0),
+    }
+}
+
 // Reads the next `n` bytes of the input into the front of the buffer, and answers how many came;
 // none where the buffer hasn't the room.
 fn read_front(bytes: &mut [u8], n: usize) -> usize
@@ -225,6 +272,63 @@ fn read_into(file: &[u8], sheet: Sheet, out: &mut [u8]) -> bool {
     write_filed(answer) & io::write_all(STDOUT_FILENO, out)
 }
 
+// Shows a table, into a buffer.
+fn show_into(image: &[u8], out: &mut [u8]) -> bool {
+    prepare(out);
+    let answer = tables::show(image, out);
+    write_drawn(answer) & io::write_all(STDOUT_FILENO, out)
+}
+
+// Makes the table of a text, into a buffer.
+fn make_into(text: &[u8], out: &mut [u8]) -> bool {
+    prepare(out);
+    let answer = tables::make(text, out);
+    write_drawn(answer) & io::write_all(STDOUT_FILENO, out)
+}
+
+// The answer of marking.
+fn write_inked(answer: Inked) -> bool {
+    io::write_all(STDOUT_FILENO, &[answer.number()])
+        & write_eight(answer.place())
+        & write_eight(answer.written())
+        & write_eight(0)
+        & write_eight(0)
+        & write_eight(0)
+}
+
+// Marks the text, into a buffer.
+fn mark_into(text: &[u8], out: &mut [u8]) -> bool {
+    prepare(out);
+    let answer = ink::mark(text, out);
+    write_inked(answer) & io::write_all(STDOUT_FILENO, out)
+}
+
+// Where a byte of the marked text comes from, beside a buffer.
+fn source_beside(text: &[u8], n: usize, out: &mut [u8]) -> bool {
+    prepare(out);
+    io::write_all(STDOUT_FILENO, &[0])
+        & write_eight(ink::source(text, n))
+        & write_eight(0)
+        & write_eight(0)
+        & write_eight(0)
+        & write_eight(0)
+        & io::write_all(STDOUT_FILENO, out)
+}
+
+// Answers one case about a text or a table, into a buffer.
+fn answer_other(asked: usize, image: &[u8], text: &[u8], n: usize, out: &mut [u8]) -> bool {
+    if asked == 6 {
+        return show_into(image, out);
+    }
+    if asked == 7 {
+        return make_into(text, out);
+    }
+    if asked == 8 {
+        return mark_into(text, out);
+    }
+    source_beside(text, n, out)
+}
+
 // Answers one case into a buffer, by what it asks.
 fn answer_into(
     asked: usize,
@@ -249,7 +353,10 @@ fn answer_into(
     if asked == 4 {
         return write_into(text, sheet, out);
     }
-    read_into(text, sheet, out)
+    if asked == 5 {
+        return read_into(text, sheet, out);
+    }
+    answer_other(asked, image, text, sheet.width, out)
 }
 
 // Room for a text, or for a layout or a file in its place.
@@ -279,7 +386,7 @@ fn answer_with(head: Head) -> bool {
     let held = read_front(&mut image, head.image);
     let mut text = large();
     let length = read_front(&mut text, head.text);
-    if (held != head.image) | (length != head.text) | (5 < head.asked) {
+    if (held != head.image) | (length != head.text) | (9 < head.asked) {
         return false;
     }
     answer(

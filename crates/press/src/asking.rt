@@ -32,6 +32,15 @@ fn command_of(word: &[u8]) -> Command {
     if same(word, b"undate") {
         return Command::Undate;
     }
+    if same(word, b"make") {
+        return Command::Make;
+    }
+    if same(word, b"show") {
+        return Command::Show;
+    }
+    if same(word, b"mark") {
+        return Command::Mark;
+    }
     if same(word, b"help") | same(word, b"--help") | same(word, b"-h") {
         return Command::Help;
     }
@@ -54,6 +63,9 @@ const FOLLOWING: u8 = 4;
 
 const OUTPUT: u8 = 5;
 
+// Takes no value.
+const INK: u8 = 6;
+
 // The option of a word that begins with a hyphen.
 fn option_of(word: &[u8]) -> u8 {
     if same(word, b"--width") {
@@ -70,6 +82,9 @@ fn option_of(word: &[u8]) -> u8 {
     }
     if same(word, b"-o") {
         return OUTPUT;
+    }
+    if same(word, b"--ink") {
+        return INK;
     }
     NOTHING
 }
@@ -186,6 +201,10 @@ fn take_option(asked: Asked, word: &[u8]) -> Taken {
         return wrong(b"there is no option '", word, b"'; press help lists them");
     }
     let mut next = asked;
+    if option == INK {
+        next.ink = true;
+        return Taken::Right(next);
+    }
     next.waiting = option;
     Taken::Right(next)
 }
@@ -253,6 +272,7 @@ fn take_one(command: Command, asked: Asked, i: usize) -> Taken {
 fn defaults() -> Asked {
     Asked {
         waiting: NOTHING,
+        ink: false,
         first: 0,
         second: 0,
         output: 0,

@@ -49,7 +49,7 @@ pub(crate) fn say_refused(number: u8, place: usize) {
     say_number(place);
 }
 
-fn say_position(bytes: &[u8], place: usize) {
+pub(crate) fn say_position(bytes: &[u8], place: usize) {
     let position = position_after(front(bytes, place));
     say(b" (line ");
     say_number(position.line);
@@ -113,7 +113,7 @@ fn say_whole(character: &[u8], byte: u8) {
 }
 
 // The character at a place, whole where it has several bytes.
-fn say_character(bytes: &[u8], place: usize) {
+pub(crate) fn say_character(bytes: &[u8], place: usize) {
     if bytes.len() <= place {
         return;
     }

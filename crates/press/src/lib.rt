@@ -8,7 +8,10 @@
 mod asking;
 mod explaining;
 mod helping;
+mod inking;
 mod keeping;
+mod lining;
+mod loading;
 mod reading;
 mod running;
 mod saying;
@@ -24,6 +27,9 @@ enum Command {
     Stamp,
     Date,
     Undate,
+    Make,
+    Show,
+    Mark,
     Help,
     Version,
     Unknown,
@@ -31,9 +37,10 @@ enum Command {
 
 // The options, and what they are about: `first` and `second` are the numbers of the arguments that
 // are no options, `output` that of the file after -o, each 0 where there is none. `waiting` is the
-// option whose value comes next.
+// option whose value comes next, and `ink` whether the text is inkprint.
 struct Asked {
     waiting: u8,
+    ink: bool,
     first: usize,
     second: usize,
     output: usize,

@@ -10,7 +10,14 @@ use crate::explaining::refused_text;
 use crate::explaining::say_refused;
 use crate::helping::help;
 use crate::helping::version;
+use crate::inking::ink_room;
+use crate::inking::is_ink;
+use crate::inking::mark_text;
+use crate::inking::marked_room;
+use crate::inking::read_ink;
 use crate::keeping::keep;
+use crate::loading::load;
+use crate::loading::load_readable;
 use crate::reading::read_argument;
 use crate::reading::read_text;
 use crate::saying::failed;
@@ -27,6 +34,11 @@ use translation::Setting;
 // Room for a table file: no right image has more than 28,301 bytes.
 fn table_room() -> [u8; 32769] {
     [0u8; 32769]
+}
+
+// Room for a readable table, with one byte more than it may have.
+fn readable_room() -> [u8; 262145] {
+    [0u8; 262145]
 }
 
 // Room for a text, with one byte more than it may have.
@@ -63,13 +75,6 @@ fn is_of_table(number: u8) -> bool {
     (number <= 4) | ((11 <= number) & (number <= 14))
 }
 
-fn table_long(i: usize) -> i32 {
-    say(b"press: refused 1 at 0: ");
-    say_argument(i);
-    say(b" has more than 32,768 bytes, and no right table image has more than 28,301\n");
-    1
-}
-
 // ---- Emboss and preview
 
 // The layout is shown, or its file kept.
@@ -92,7 +97,16 @@ fn deliver(command: Command, asked: Asked, layout: &[u8]) -> i32 {
     }
 }
 
-fn emboss_text(command: Command, asked: Asked, image: &[u8], text: &[u8]) -> i32 {
+// The text by a table that is there. `ink` is what the text was marked from, empty where it is no
+// inkprint.
+fn emboss_text(
+    command: Command,
+    asked: Asked,
+    image: &[u8],
+    table: &[u8],
+    text: &[u8],
+    ink: &[u8],
+) -> i32 {
     let mut out = layout_room();
     let answer = layout::emboss(setting_of(asked), image, text, sheet_of(asked), &mut out);
     let number = answer.number();
@@ -100,7 +114,11 @@ fn emboss_text(command: Command, asked: Asked, image: &[u8], text: &[u8]) -> i32
         return deliver(command, asked, front(&out, answer.written()));
     }
     if is_of_table(number) {
-        return refused_table(number, answer.place(), image);
+        return refused_table(number, answer.place(), image, table);
+    }
+    if (0 < ink.len()) & ((number == 6) | (number == 7)) {
+        let place = ink::source(ink, answer.place());
+        return refused_text(number, place, ink, asked.following, sheet_of(asked));
     }
     refused_text(
         number,
@@ -111,14 +129,26 @@ fn emboss_text(command: Command, asked: Asked, image: &[u8], text: &[u8]) -> i32
     )
 }
 
-fn emboss(command: Command, asked: Asked) -> i32 {
-    let mut image = table_room();
-    let table = read_argument(asked.first, &mut image);
-    if table.failed {
-        return 3;
+fn emboss_ink(command: Command, asked: Asked, image: &[u8], table: &[u8]) -> i32 {
+    let mut ink = ink_room();
+    let mut marked = marked_room();
+    let done = read_ink(asked.second, &mut ink, &mut marked);
+    if done.status != 0 {
+        return done.status;
     }
-    if 32768 < table.count {
-        return table_long(asked.first);
+    emboss_text(
+        command,
+        asked,
+        image,
+        table,
+        front(&marked, done.bytes),
+        front(&ink, done.ink),
+    )
+}
+
+fn emboss_by(command: Command, asked: Asked, image: &[u8], table: &[u8]) -> i32 {
+    if is_ink(asked) {
+        return emboss_ink(command, asked, image, table);
     }
     let mut text = text_room();
     let reading = read_text(asked.second, &mut text);
@@ -128,8 +158,10 @@ fn emboss(command: Command, asked: Asked) -> i32 {
     emboss_text(
         command,
         asked,
-        front(&image, table.count),
+        image,
+        table,
         front(&text, reading.count),
+        &[],
     )
 }
 
@@ -164,7 +196,7 @@ fn read(asked: Asked) -> i32 {
 
 // ---- Tables
 
-fn check_table(asked: Asked, image: &[u8]) -> i32 {
+fn check_table(asked: Asked, image: &[u8], text: &[u8]) -> i32 {
     match table::check(image) {
         Verdict::Accepted => {
             if print_table(image, asked.year) {
@@ -172,14 +204,14 @@ fn check_table(asked: Asked, image: &[u8]) -> i32 {
             }
             failed(b"standard output")
         }
-        Verdict::Refused(r) => refused_table(r.number(), r.place(), image),
+        Verdict::Refused(r) => refused_table(r.number(), r.place(), image, text),
     }
 }
 
-fn stamp_table(image: &[u8]) -> i32 {
+fn stamp_table(image: &[u8], text: &[u8]) -> i32 {
     let stamped = stamp::stamp(image);
     if stamped.number() != 0 {
-        return refused_table(stamped.number(), stamped.place(), image);
+        return refused_table(stamped.number(), stamped.place(), image, text);
     }
     if print_stamp(stamped) {
         return 0;
@@ -188,7 +220,7 @@ fn stamp_table(image: &[u8]) -> i32 {
 }
 
 // A mover refuses a table with 1 where it is wrong, and where it has the other form already.
-fn not_moved(number: u8, place: usize, image: &[u8], form: &[u8]) -> i32 {
+fn not_moved(number: u8, place: usize, image: &[u8], text: &[u8], form: &[u8]) -> i32 {
     if number == 1 {
         if let Verdict::Accepted = table::check(image) {
             say_refused(number, place);
@@ -198,46 +230,89 @@ fn not_moved(number: u8, place: usize, image: &[u8], form: &[u8]) -> i32 {
             return 1;
         }
     }
-    refused_table(number, place, image)
+    refused_table(number, place, image, text)
 }
 
-fn date_table(asked: Asked, image: &[u8]) -> i32 {
+fn date_table(asked: Asked, image: &[u8], text: &[u8]) -> i32 {
     let mut out = table_room();
     let moved = dates::date(image, &mut out);
     if moved.number() != 0 {
-        return not_moved(moved.number(), moved.place(), image, b"dated");
+        return not_moved(moved.number(), moved.place(), image, text, b"dated");
     }
     keep(asked.output, front(&out, moved.written()))
 }
 
-fn undate_table(asked: Asked, image: &[u8]) -> i32 {
+fn undate_table(asked: Asked, image: &[u8], text: &[u8]) -> i32 {
     let mut out = table_room();
     let moved = dates::undate(image, &mut out);
     if moved.number() != 0 {
-        return not_moved(moved.number(), moved.place(), image, b"old");
+        return not_moved(moved.number(), moved.place(), image, text, b"old");
     }
     keep(asked.output, front(&out, moved.written()))
 }
 
-fn with_table(command: Command, asked: Asked, image: &[u8]) -> i32 {
+// The readable form of a table.
+fn show_table(asked: Asked, image: &[u8], text: &[u8]) -> i32 {
+    let mut out = layout_room();
+    let drawn = tables::show(image, &mut out);
+    if drawn.number() != 0 {
+        return refused_table(drawn.number(), drawn.place(), image, text);
+    }
+    keep(asked.output, front(&out, drawn.written()))
+}
+
+// The image of a readable table is kept, whether the table is right or not; what is wrong with it is
+// said.
+fn keep_made(asked: Asked, image: &[u8], text: &[u8]) -> i32 {
+    let status = keep(asked.output, image);
+    if status != 0 {
+        return status;
+    }
+    match table::check(image) {
+        Verdict::Accepted => 0,
+        Verdict::Refused(r) => refused_table(r.number(), r.place(), image, text),
+    }
+}
+
+fn make_table(asked: Asked) -> i32 {
+    let mut text = readable_room();
+    let mut image = table_room();
+    let loaded = load_readable(asked.first, &mut text, &mut image);
+    if loaded.status != 0 {
+        return loaded.status;
+    }
+    keep_made(
+        asked,
+        front(&image, loaded.image),
+        front(&text, loaded.text),
+    )
+}
+
+fn with_table(command: Command, asked: Asked, image: &[u8], text: &[u8]) -> i32 {
     match command {
-        Command::Check => check_table(asked, image),
-        Command::Stamp => stamp_table(image),
-        Command::Date => date_table(asked, image),
-        _ => undate_table(asked, image),
+        Command::Emboss => emboss_by(command, asked, image, text),
+        Command::Preview => emboss_by(command, asked, image, text),
+        Command::Check => check_table(asked, image, text),
+        Command::Stamp => stamp_table(image, text),
+        Command::Date => date_table(asked, image, text),
+        Command::Show => show_table(asked, image, text),
+        _ => undate_table(asked, image, text),
     }
 }
 
 fn on_table(command: Command, asked: Asked) -> i32 {
+    let mut text = readable_room();
     let mut image = table_room();
-    let table = read_argument(asked.first, &mut image);
-    if table.failed {
-        return 3;
+    let loaded = load(asked.first, &mut text, &mut image);
+    if loaded.status != 0 {
+        return loaded.status;
     }
-    if 32768 < table.count {
-        return table_long(asked.first);
-    }
-    with_table(command, asked, front(&image, table.count))
+    with_table(
+        command,
+        asked,
+        front(&image, loaded.image),
+        front(&text, loaded.text),
+    )
 }
 
 // ---- Any command
@@ -253,14 +328,15 @@ fn usage(words: &[u8]) -> i32 {
 fn takes_output(command: Command) -> bool {
     match command {
         Command::Emboss => true,
-        Command::Date => true,
-        Command::Undate => true,
-        _ => false,
+        Command::Show => true,
+        Command::Mark => true,
+        _ => wants_output(command),
     }
 }
 
 fn wants_output(command: Command) -> bool {
     match command {
+        Command::Make => true,
         Command::Date => true,
         Command::Undate => true,
         _ => false,
@@ -280,22 +356,30 @@ fn help_on(i: usize) -> i32 {
 
 fn run_on(command: Command, asked: Asked) -> i32 {
     match command {
-        Command::Emboss => emboss(command, asked),
-        Command::Preview => emboss(command, asked),
         Command::Read => read(asked),
+        Command::Make => make_table(asked),
+        Command::Mark => mark_text(asked),
         _ => on_table(command, asked),
     }
 }
 
+// Commands that can do without a name.
+fn takes_input(command: Command) -> bool {
+    match command {
+        Command::Mark => true,
+        _ => false,
+    }
+}
+
 fn run_checked(command: Command, asked: Asked) -> i32 {
-    if asked.first == 0 {
+    if (asked.first == 0) & !takes_input(command) {
         return usage(b"there is no name of a table or a file; press help shows where it goes");
     }
     if (asked.output != 0) & !takes_output(command) {
-        return usage(b"-o goes with emboss, date and undate alone");
+        return usage(b"-o goes with emboss, mark, show, make, date and undate alone");
     }
     if (asked.output == 0) & wants_output(command) {
-        return usage(b"date and undate want -o and the name of a file");
+        return usage(b"make, date and undate want -o and the name of a file");
     }
     run_on(command, asked)
 }

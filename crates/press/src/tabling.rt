@@ -3,6 +3,7 @@
 
 ghost use Prim.Native.Nat.{_<_};
 use crate::explaining::say_refused;
+use crate::lining::line_of;
 use crate::saying::say;
 use crate::saying::say_number;
 use console::write_whole;
@@ -258,9 +259,42 @@ fn tell_placed(image: &[u8], number: u8, place: usize) {
     }
 }
 
-// The refusals of a table: 1, 2, 11 to 14, 3, 4, and 17 of a mover.
-pub(crate) fn refused_table(number: u8, place: usize, image: &[u8]) -> i32 {
+// The line of a readable table that has record `index` of the section that a refusal is about.
+fn line_for(number: u8, text: &[u8], index: usize) -> usize {
+    if number == 2 {
+        return line_of(text, b"letter", index);
+    }
+    if number == 12 {
+        return line_of(text, b"context", index);
+    }
+    if number == 13 {
+        return line_of(text, b"transition", index);
+    }
+    if number == 14 {
+        return line_of(text, b"decision", index);
+    }
+    line_of(text, b"entry", index)
+}
+
+// The line of a readable table that the wrong byte comes from. A table without a blank has none.
+fn say_line(image: &[u8], number: u8, place: usize, text: &[u8]) {
+    if number == 3 {
+        return;
+    }
+    if let Placed::At(at) = record_at(section_of(locate(image), number), place) {
+        say(b", line ");
+        say_number(line_for(number, text, wide(at.index)));
+        say(b" of the table");
+    }
+}
+
+// The refusals of a table: 1, 2, 11 to 14, 3, 4, and 17 of a mover. `text` is the readable table
+// that the image was made of, empty where there is none.
+pub(crate) fn refused_table(number: u8, place: usize, image: &[u8], text: &[u8]) -> i32 {
     say_refused(number, place);
+    if 0 < text.len() {
+        say_line(image, number, place, text);
+    }
     if number == 1 {
         say(
             b": this is no whole table image; its trailer or the lengths of its sections are wrong\n",

@@ -5,10 +5,12 @@ use mathlib.Core.Path.{_≡_, sym, ap, _∙_}
 use Rattle.table.proofs.Promises.{check-determined}
 use Rattle.stamp.proofs.Promises.{stamp-determined}
 use Rattle.dates.specs.Moving.{Outcome}
+use Rattle.tables.specs.Calls.{Outcome as OutcomeOfDrawn}
+use Rattle.ink.proofs.Promises.{mark-determined}
 use Rattle.layout.proofs.Promises.{emboss-determined}
 use Rattle.embosser.specs.declared.Kind.{Kind}
 use Rattle.embosser.proofs.Promises.{files-determined}
-use Rattle.tlopahuexi.specs.Promises.{sixValues, Pressed, threeValues, Converted, twoValues, Judged, fourValues, Marked, movedValues, Recast}
+use Rattle.tlopahuexi.specs.Promises.{sixValues, Pressed, threeValues, Converted, twoValues, Judged, fourValues, Marked, movedValues, Recast, fiveValues, Redrawn, inkedValues, Inkprinted}
 
 pub tlopahuexi-emboss-determined : {image text : List ℕ} {following year W P : ℕ} {before : List ℕ} {x y u v : List ℕ} → Pressed image text following year W P before x u
     → Pressed image text following year W P before y v → (x ≡ y) × (u ≡ v)
@@ -35,3 +37,14 @@ marked-determined p q = p .tells ∙ ap fourValues (stamp-determined (p .stamps)
 pub recast-determined : {outcome : Outcome} {x y u v : List ℕ} → Recast outcome x u → Recast outcome y v → (x ≡ y) × (u ≡ v)
 recast-determined p q =
     (p .ends .leaves ∙ sym (q .ends .leaves), p .tells ∙ ap movedValues (p .ends .answers ∙ sym (q .ends .answers)) ∙ sym (q .tells))
+
+-- `tlopahuexi_show`, `tlopahuexi_make`
+pub redrawn-determined : {outcome : OutcomeOfDrawn} {x y u v : List ℕ} → Redrawn outcome x u → Redrawn outcome y v → (x ≡ y) × (u ≡ v)
+redrawn-determined p q =
+    (p .ends .leaves ∙ sym (q .ends .leaves), p .tells ∙ ap fiveValues (p .ends .answers ∙ sym (q .ends .answers)) ∙ sym (q .tells))
+
+-- `tlopahuexi_mark`
+pub inkprinted-determined : {text before : List ℕ} {x y u v : List ℕ} → Inkprinted text before x u → Inkprinted text before y v → (x ≡ y) × (u ≡ v)
+inkprinted-determined p q =
+    let same = mark-determined (p .inks) (q .inks) in
+    (same .1, p .tells ∙ ap inkedValues (same .0) ∙ sym (q .tells))

@@ -14,11 +14,17 @@ use Rattle.stamp.specs.declared.Stamped.{Stamped}
 use Rattle.dates.specs.Moving.{Outcome, number as numberOfMoved, place as placeOfMoved, written as writtenOfMoved}
 use Rattle.dates.specs.Promises.{Ends, Tells as TellsOfMoved}
 use Rattle.dates.specs.declared.Moved.{Moved}
+use Rattle.tables.specs.Calls.{Outcome as OutcomeOfDrawn, numberOf, placeOf, writtenOf, lineOf, columnOf}
+use Rattle.tables.specs.Promises.{Ends as EndsDrawn, Tells as TellsOfDrawn}
+use Rattle.tables.specs.declared.Drawn.{Drawn}
+use Rattle.ink.specs.Calls.{numberOf as numberOfInked, placeOf as placeOfInked, writtenOf as writtenOfInked}
+use Rattle.ink.specs.Promises.{Inks, Tells as TellsOfInked}
+use Rattle.ink.specs.declared.Inked.{Inked}
 use Rattle.embosser.specs.Filing.{number, place, written}
 use Rattle.embosser.specs.Promises.{Files, Tells}
 use Rattle.embosser.specs.declared.Kind.{Kind}
 use Rattle.embosser.specs.declared.Filed.{Filed}
-use Rattle.tlopahuexi.specs.Promises.{threeValues, Converted, twoValues, Judged, fourValues, Marked, movedValues, Recast}
+use Rattle.tlopahuexi.specs.Promises.{threeValues, Converted, twoValues, Judged, fourValues, Marked, movedValues, Recast, fiveValues, Redrawn, inkedValues, Inkprinted}
 
 -- three numbers, each that which it has to be, are the three in order: of a file's answer and of a mover's
 three-told : {n p w a b c : ℕ} → n ≡ a → p ≡ b → w ≡ c → n ∷ p ∷ w ∷ [] ≡ a ∷ b ∷ c ∷ []
@@ -40,6 +46,18 @@ pub marked : {image : List ℕ} {a : Stamped} {n p f s : ℕ} → Stamps image a
     → Marked image (n ∷ p ∷ f ∷ s ∷ [])
 unfolding fourValues
 marked stamps n p f s = record { answer = _; stamps = stamps; tells = rw (n .is) (rw (p .is) (rw (f .is) (rw (s .is) refl))) }
+
+pub redrawn : {outcome : OutcomeOfDrawn} {after : List ℕ} {a : Drawn} {n p w l k : ℕ} → EndsDrawn outcome a after
+    → TellsOfDrawn numberOf a n → TellsOfDrawn placeOf a p → TellsOfDrawn writtenOf a w → TellsOfDrawn lineOf a l → TellsOfDrawn columnOf a k
+    → Redrawn outcome after (n ∷ p ∷ w ∷ l ∷ k ∷ [])
+unfolding fiveValues
+redrawn ends n p w l k =
+    record { answer = _; ends = ends; tells = rw (n .is) (rw (p .is) (rw (w .is) (rw (l .is) (rw (k .is) refl)))) }
+
+pub inkprinted : {text before after : List ℕ} {a : Inked} {n p w : ℕ} → Inks text before a after
+    → TellsOfInked numberOfInked a n → TellsOfInked placeOfInked a p → TellsOfInked writtenOfInked a w → Inkprinted text before after (n ∷ p ∷ w ∷ [])
+unfolding inkedValues
+inkprinted inks n p w = record { answer = _; inks = inks; tells = three-told (n .is) (p .is) (w .is) }
 
 -- the check of an accepted image
 pub judged-accepted : {image : List ℕ} {v : Verdict} → Checked image v → v ≡ Accepted → Judged image (numberDone ∷ noPlace ∷ [])

@@ -14,6 +14,12 @@ use Rattle.stamp.specs.declared.Stamped.{Stamped}
 use Rattle.dates.specs.Moving.{Outcome, number as numberOfMoved, place as placeOfMoved, written as writtenOfMoved}
 use Rattle.dates.specs.Promises.{Ends}
 use Rattle.dates.specs.declared.Moved.{Moved}
+use Rattle.tables.specs.Calls.{Outcome as OutcomeOfDrawn, numberOf, placeOf, writtenOf, lineOf, columnOf}
+use Rattle.tables.specs.Promises.{Ends as EndsDrawn}
+use Rattle.tables.specs.declared.Drawn.{Drawn}
+use Rattle.ink.specs.Calls.{numberOf as numberOfInked, placeOf as placeOfInked, writtenOf as writtenOfInked}
+use Rattle.ink.specs.Promises.{Inks}
+use Rattle.ink.specs.declared.Inked.{Inked}
 use Rattle.layout.specs.Emboss.{number, place, written, pieces, lines, pages}
 use Rattle.layout.specs.Promises.{Embossed}
 use Rattle.layout.specs.declared.Answer.{Answer}
@@ -74,3 +80,24 @@ pub record Recast (outcome : Outcome) (after values : List ℕ) : Type 0 where
   pub answer : Moved
   pub ends : Ends outcome answer after
   pub tells : values ≡ movedValues answer
+
+-- the five values of an answer about a readable table
+unfoldable pub fiveValues : Drawn → List ℕ
+fiveValues a = numberOf a ∷ placeOf a ∷ writtenOf a ∷ lineOf a ∷ columnOf a ∷ []
+
+-- `tlopahuexi_show` and `tlopahuexi_make`: an answer that `show` or `make` promises, which is that of the definitions' outcome, with its output, and that
+-- answer's five values
+pub record Redrawn (outcome : OutcomeOfDrawn) (after values : List ℕ) : Type 0 where
+  pub answer : Drawn
+  pub ends : EndsDrawn outcome answer after
+  pub tells : values ≡ fiveValues answer
+
+-- the three values of an answer about inkprint
+unfoldable pub inkedValues : Inked → List ℕ
+inkedValues a = numberOfInked a ∷ placeOfInked a ∷ writtenOfInked a ∷ []
+
+-- `tlopahuexi_mark`: an answer that `mark` promises, with its output, and that answer's three values
+pub record Inkprinted (text before after values : List ℕ) : Type 0 where
+  pub answer : Inked
+  pub inks : Inks text before answer after
+  pub tells : values ≡ inkedValues answer

@@ -6,13 +6,18 @@
 ghost use Rattle.tlopahuexi.specs.Promises.{Pressed};
 
 mod checking;
+mod drawing;
 mod filing;
+mod inking;
 mod moving;
 mod stamping;
 
 pub use checking::tlopahuexi_check;
+pub use drawing::tlopahuexi_make;
+pub use drawing::tlopahuexi_show;
 pub use filing::tlopahuexi_read_file;
 pub use filing::tlopahuexi_write_file;
+pub use inking::tlopahuexi_mark;
 use layout::emboss;
 pub use moving::tlopahuexi_date;
 pub use moving::tlopahuexi_undate;
