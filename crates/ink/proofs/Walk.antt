@@ -1,6 +1,6 @@
 -- Laws of the walk over a text: a mark has four bytes at most, what is marked so far grows by one character's bytes at a time, and a byte's source is found on
 -- the way.
-use Prim.Native.Nat.{ℕ, suc, _+_, _-_, _≤_, _<_}
+use Prim.Native.Nat.{ℕ, zero, suc, _+_, _-_, _*_, _≤_, _<_}
 use mathlib.Core.Bool.{Bool, true, false, cond, not, _&&_, _||_}
 use mathlib.Core.List.{List, [], _∷_, _++_}
 use mathlib.Core.Path.{_≡_, refl, _∙_, ap}
@@ -13,16 +13,17 @@ use borrow.Author.Tests.{lt-ltb, le-ltb}
 use Rattle.table.specs.inside.Wrote.{Wrote}
 use Rattle.table.proofs.Wrote.{put-then}
 use Rattle.ink.specs.Numbers.{codeSign, quoteCode, rightCode, paragraphCode, lineFeed, blank, apostrophe}
-use Rattle.ink.specs.Characters.{nextOf, charactersOf}
+use Rattle.ink.specs.Characters.{nextOf, charactersFrom, charactersOf}
 use Rattle.ink.specs.Glyphs.{glyphOf, isMarked}
 use Rattle.ink.specs.Marks.{bytesOf, startsLetter, isBlank, wordOf, capitalSigns, letterMark, letterStep, signStep, closeStep, gapStep, feedStep, stepOf, state, start, step, none, one, two, three, Marking, marked, unmarked, markFrom, marking, sourceFrom, sourceOf}
-use Rattle.ink.specs.inside.Steps.{walkedTo, Small, Puts}
+use Rattle.ink.specs.inside.Steps.{walkedTo, judgedAs, Small, Puts}
 use Rattle.ink.specs.declared.Character.{Character}
 use Rattle.ink.specs.declared.Glyph.{Glyph}
 use Rattle.ink.specs.declared.Glyph.the-variants.{Letter, Plain, Literal, Gap, Nothing, Feed, Page, LongDash, Dots, Opens, Closes, Unmarked}
 use Rattle.ink.specs.declared.Signs.{Signs}
 use Rattle.ink.specs.declared.State.{State}
 use Rattle.ink.specs.declared.Step.{Step}
+use Rattle.ink.specs.declared.Judged.the-variants as judged
 use Rattle.ink.specs.declared.Walked.the-variants as walked
 use Rattle.ink.proofs.Characters.{characters-none, characters-more}
 
@@ -186,6 +187,70 @@ walk-wrote {text} {before} {after} {bytes} w ends is fits =
     let also = ap length same in
     record { leaves = rw same at (w .put (omega arith) .leaves) }
 
+-- ---- The judging: some state and some marked text lead to the rest
+
+pub record Judges (text : List ℕ) (at : ℕ) : Type 0 where
+  pub s : State
+  pub sofar : List ℕ
+  pub goes : marking text ≡ markFrom s at sofar (charactersOf (drop at text))
+
+pub judge-starts : (text : List ℕ) → Judges text 0
+unfolding marking
+judge-starts text = record { s = start; sofar = []; goes = refl }
+
+pub judge-on : {text : List ℕ} {at : ℕ} {c : Character} {g : Glyph}
+    → at < length text → c ≡ nextOf (drop at text) → g ≡ glyphOf (c .code) → isMarked g ≡ true → Judges text at → Judges text (at + c .size)
+judge-on {text} {at} {c} {g} here is-c is-g there j =
+    let next = nextOf (drop at text) in
+    let stepped = stepOf (j .s) (glyphOf (next .code)) (charactersOf (drop (at + next .size) text)) in
+    rw is-c
+    (record {
+      s = stepped .next;
+      sofar = j .sofar ++ bytesOf (stepped .mark);
+      goes = j .goes ∙ mark-goes text (j .s) at (j .sofar) here (rw (is-g, is-c) at there);
+    })
+
+pub judge-stops : {text : List ℕ} {at : ℕ} {c : Character} {g : Glyph}
+    → at < length text → c ≡ nextOf (drop at text) → g ≡ glyphOf (c .code) → isMarked g ≡ false → Judges text at → marking text ≡ unmarked at
+judge-stops {text} {at} here is-c is-g not-there j = j .goes ∙ mark-stops text (j .s) at (j .sofar) here (rw (is-g, is-c) at not-there)
+
+pub judge-ends : {text : List ℕ} {at : ℕ} → length text ≤ at → (j : Judges text at) → marking text ≡ marked (j .sofar)
+unfolding markFrom
+judge-ends {text} {at} over j = j .goes ∙ rw (characters-none text at over, markFrom)
+
+-- ---- A marked text has at most four bytes for each of the text
+
+characters-few : (n : ℕ) (text : List ℕ) → length (charactersFrom n text) ≤ n
+unfolding charactersFrom
+characters-few zero text = omega arith
+characters-few (suc n) [] = omega arith
+characters-few (suc n) (b ∷ bs) = let few = characters-few n (drop (nextOf (b ∷ bs) .size) (b ∷ bs)) in omega arith
+
+marked-few : (cs : List Character) (s : State) (at : ℕ) (sofar bytes : List ℕ) → markFrom s at sofar cs ≡ marked bytes → length bytes ≤ length sofar + 4 * length cs
+unfolding markFrom
+marked-few [] s at sofar bytes e = let same : sofar ≡ bytes = cc in let also = ap length same in omega arith
+marked-few (c ∷ cs) s at sofar bytes e = go (isMarked (glyphOf (c .code))) refl (λ s at sofar e. marked-few cs s at sofar bytes e)
+  where
+    go : (t : Bool) → isMarked (glyphOf (c .code)) ≡ t
+        → ((s : State) (at : ℕ) (sofar : List ℕ) → markFrom s at sofar cs ≡ marked bytes → length bytes ≤ length sofar + 4 * length cs)
+        → length bytes ≤ length sofar + 4 * length (c ∷ cs)
+    go true h rest =
+        let stepped = stepOf s (glyphOf (c .code)) cs in
+        let small = step-small s (glyphOf (c .code)) cs in
+        let long = bytes-length small in
+        let both = length-append sofar (bytesOf (stepped .mark)) in
+        let count = small .count in
+        let later = rest (stepped .next) (at + c .size) (sofar ++ bytesOf (stepped .mark)) (rw (h, markFrom) at e) in
+        omega arith
+    go false h rest = let never : unmarked at ≡ marked bytes = rw (h, markFrom) at e in let z : _≡_ {A = ℕ} 0 1 = cc in absurd (omega arith)
+
+pub four-each : (text bytes : List ℕ) → marking text ≡ marked bytes → length bytes ≤ 4 * length text
+unfolding marking charactersOf
+four-each text bytes e =
+    let few = characters-few (length text) text in
+    let most = marked-few (charactersOf text) start 0 [] bytes e in
+    omega arith
+
 -- ---- What the walk answers is the marking
 
 -- the marked text has so many bytes
@@ -236,3 +301,14 @@ module _ (text : List ℕ) (s : State) (at n : ℕ) {c : Character} {g : Glyph} 
   pub source-more : stepped .mark .count ≤ n
       → sourceFrom s at n (charactersOf (drop at text)) ≡ sourceFrom (stepped .next) (at + c .size) (n - stepped .mark .count) (charactersOf (drop (at + c .size) text))
   source-more l = rw (is-step, is-g, is-c) (source-on text s at n here (rw (is-step, is-g, is-c) at (le-ltb n (stepped .mark .count) l)))
+
+-- ---- What the judging answers
+
+pub judged-wrong : (m : Marking) {at : ℕ} → judged.Wrong at ≡ judgedAs m → m ≡ unmarked at
+judged-wrong (marked bytes) e = let z : _≡_ {A = ℕ} 0 1 = cc in absurd (omega arith)
+judged-wrong (unmarked p) {at} e = let same : p ≡ at = cc in ap unmarked same
+
+-- where each character has a mark, no walk meets one that has none
+pub fine-never-wrong : (m : Marking) {at : ℕ} → judged.Fine ≡ judgedAs m → walked.Wrong at ≡ walkedTo m → ⊥
+fine-never-wrong (marked bytes) fine wrong = let z : _≡_ {A = ℕ} 0 1 = cc in omega arith
+fine-never-wrong (unmarked at) fine wrong = let z : _≡_ {A = ℕ} 0 1 = cc in omega arith

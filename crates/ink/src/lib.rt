@@ -67,6 +67,12 @@ enum Walked {
     Wrong(usize),
 }
 
+// Whether each character has a mark, or the place of the first that has none.
+enum Judged {
+    Fine,
+    Wrong(usize),
+}
+
 // What `mark` answers.
 pub enum Inked {
     Done { written: usize },

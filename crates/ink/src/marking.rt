@@ -8,8 +8,9 @@ ghost use lib.ListN.{length};
 ghost use Rattle.table.specs.inside.Wrote.{Wrote};
 ghost use Rattle.ink.specs.Marks.{bytesOf, start as startOf, marked, marking};
 ghost use Rattle.ink.specs.Promises.{Inks, Sources};
-ghost use Rattle.ink.specs.inside.Steps.{walkedTo, Small, Puts};
+ghost use Rattle.ink.specs.inside.Steps.{walkedTo, judgedAs, Small, Puts};
 use crate::Inked;
+use crate::Judged;
 use crate::Signs;
 use crate::State;
 use crate::Walked;
@@ -82,15 +83,40 @@ fn walk(text: &[u8], out: &mut [u8]) -> Walked
     Walked::To(to)
 }
 
-// Marks inkprint: the marked text goes to the front of `out`. A text too long is refused before all
-// else, a character that has no mark, and a byte that is no UTF-8, at its place, and last the room
-// is checked.
-pub fn mark(text: &[u8], out: &mut [u8]) -> Inked
+// Whether each character has a mark.
+fn judge(text: &[u8]) -> Judged
+    ensures { λ r. ⌜ r ≡ judgedAs (marking (now (text .entry))) ⌝ }
+{
+    let mut at = 0;
+    while at < text.len() {
+        let c = next(text, at);
+        if !is_marked(glyph(c.code)) {
+            return Judged::Wrong(at);
+        }
+        at += c.size;
+    }
+    Judged::Fine
+}
+
+// The text where there is room for any of its length: it is judged, and then written.
+fn mark_roomy(text: &[u8], out: &mut [u8]) -> Inked
+    requires { ⌜ (length (now text) ≤ 1073741824) × (4 * length (now text) ≤ length (now out)) ⌝ }
     ensures { λ r. ⌜ Inks (now (text .entry)) (now (out .entry)) r (now (out .exit)) ⌝ }
 {
-    if 1073741824 < text.len() {
-        return Inked::Long;
+    if let Judged::Wrong(at) = judge(text) {
+        return Inked::Unmarked(at);
     }
+    match walk(text, out) {
+        Walked::To(n) => Inked::Done { written: n },
+        Walked::Wrong(at) => Inked::Unmarked(at),
+    }
+}
+
+// The text where there may be no room for it: it is measured, and then written.
+fn mark_measured(text: &[u8], out: &mut [u8]) -> Inked
+    requires { ⌜ length (now text) ≤ 1073741824 ⌝ }
+    ensures { λ r. ⌜ Inks (now (text .entry)) (now (out .entry)) r (now (out .exit)) ⌝ }
+{
     let mut unused = [0u8; 1];
     match walk(text, &mut unused) {
         Walked::Wrong(at) => Inked::Unmarked(at),
@@ -102,6 +128,22 @@ pub fn mark(text: &[u8], out: &mut [u8]) -> Inked
             Inked::Done { written: needed }
         }
     }
+}
+
+// Marks inkprint: the marked text goes to the front of `out`. A text of more than 1,073,741,824
+// bytes is refused, then a character that has no mark, and a byte that is no UTF-8, at its place, and
+// last the room is checked. No mark has more than four bytes for one of the text, so with four times
+// the text's length of room nothing has to be measured.
+pub fn mark(text: &[u8], out: &mut [u8]) -> Inked
+    ensures { λ r. ⌜ Inks (now (text .entry)) (now (out .entry)) r (now (out .exit)) ⌝ }
+{
+    if 1073741824 < text.len() {
+        return Inked::Long;
+    }
+    if text.len() <= out.len() / 4 {
+        return mark_roomy(text, out);
+    }
+    mark_measured(text, out)
 }
 
 // The place in the ink text of the character that byte `n` of its marked text comes from; its length

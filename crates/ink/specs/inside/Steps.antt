@@ -5,6 +5,8 @@ use lib.ListN.{length}
 use Rattle.table.specs.inside.Wrote.{Wrote}
 use Rattle.ink.specs.Marks.{Marking, marked, unmarked}
 use Rattle.ink.specs.declared.Signs.{Signs}
+use Rattle.ink.specs.declared.Judged.{Judged}
+use Rattle.ink.specs.declared.Judged.the-variants as judged
 use Rattle.ink.specs.declared.Walked.{Walked}
 use Rattle.ink.specs.declared.Walked.the-variants as walked
 
@@ -12,6 +14,11 @@ use Rattle.ink.specs.declared.Walked.the-variants as walked
 abbrev pub walkedTo : Marking → Walked
 walkedTo (marked bytes) = walked.To (length bytes)
 walkedTo (unmarked at) = walked.Wrong at
+
+-- what it comes to where its bytes aren't counted
+abbrev pub judgedAs : Marking → Judged
+judgedAs (marked bytes) = judged.Fine
+judgedAs (unmarked at) = judged.Wrong at
 
 -- a mark has four bytes at most
 pub record Small (m : Signs) : Type 0 where

@@ -1,57 +1,29 @@
--- `ink::marking::mark` meets its contract: each answer is a case of the call.
+-- `ink::marking::mark` meets its contract: each way is a case of the call.
 use borrow.Author.Needs.{needs}
-use mathlib.Core.Path.{sym, _∙_}
-use Rattle.ink.proofs.Walk.{walked-to, walked-wrong}
-use Rattle.ink.proofs.Calls.{inks-long, inks-unmarked, inks-room, inks-done}
+use Rattle.ink.proofs.Calls.{inks-long}
 use Rattle.ink.proofs.marking.mark.Statement.{statement}
 use Rattle.ink.proofs.marking.mark.Tie as tie
 
 returns : tie.Need-returns
 returns c = inks-long _ _ (c .if1 .taken)
 
-slice-aggregate-walk : tie.Need-slice-aggregate-walk
-slice-aggregate-walk c = search needs
-
-walk-requires : tie.Need-walk-requires
-walk-requires c κs = search needs
-
-enum-known-at : tie.Need-enum-known-at
-enum-known-at c = search needs
-
-enum-known-needed : tie.Need-enum-known-needed
-enum-known-needed c = search needs
-
-returns-2 : tie.Need-returns-2
-returns-2 c =
-    let comes = walked-to _ (sym (c .before .before .needed .given .1) ∙ c .before .before .before .before .before .walk .ensures .0) in
-    inks-room _ _ _ (c .before .before .before .before .before .before .before .if1 .left) (comes .is) (comes .long) (c .if2 .taken)
-
-walk-requires-2 : tie.Need-walk-requires-2
-walk-requires-2 c κs = search needs
-
-returns-3 : tie.Need-returns-3
-returns-3 c =
-    inks-unmarked _ _ _ (c .before .before .before .before .before .before .if1 .left) (walked-wrong _ (sym (c .before .at .given .1) ∙ c .before .before .before .before .walk .ensures .0))
+mark-roomy-requires : tie.Need-mark-roomy-requires
+mark-roomy-requires c κs = search needs
 
 same-length : tie.Need-same-length
 same-length c = search needs
 
-returns-4 : tie.Need-returns-4
-returns-4 c =
-    let comes = walked-to _ (sym (c .before .before .before .before .before .before .needed .given .1) ∙ c .before .before .before .before .before .before .before .before .before .walk .ensures .0) in
-    inks-done _ _ _ (c .before .before .before .before .before .before .before .before .before .before .before .if1 .left) (comes .is) (comes .long) (c .before .before .before .before .if2 .left) (c .before .before .walk2 .ensures .1)
+returns-2 : tie.Need-returns-2
+returns-2 c = search needs
+
+mark-measured-requires : tie.Need-mark-measured-requires
+mark-measured-requires c κs = search needs
+
+same-length-2 : tie.Need-same-length-2
+same-length-2 c = search needs
+
+returns-3 : tie.Need-returns-3
+returns-3 c = search needs
 
 pub mark-spec : {M : Type 1} → statement M
-mark-spec =
-    tie.close
-    (tie.spec
-    returns
-    slice-aggregate-walk
-    walk-requires
-    enum-known-at
-    enum-known-needed
-    returns-2
-    walk-requires-2
-    returns-3
-    same-length
-    returns-4)
+mark-spec = tie.close (tie.spec returns mark-roomy-requires same-length returns-2 mark-measured-requires same-length-2 returns-3)

@@ -1,0 +1,72 @@
+-- `ink::marking::judge` meets its contract. The loop's invariant: every character before `at` has a mark, so that the marking of the text is that of the
+-- characters from `at` on, after some marked text. The measure is what is left of the text.
+use borrow.Author.Needs.{needs}
+use Prim.Native.Nat.{_-_, _≤_}
+use mathlib.Core.Path.{_≡_, sym, _∙_, ap}
+use native.Mathlib.Omega.{arith}
+use lib.ListN.{length}
+use borrow.Author.Tests.{not-true, not-false}
+use Rattle.ink.specs.inside.Steps.{judgedAs}
+use Rattle.ink.proofs.Walk.{Judges, judge-starts, judge-on, judge-stops, judge-ends}
+use Rattle.ink.proofs.marking.judge.Statement.{statement}
+use Rattle.ink.proofs.marking.judge.Tie as tie
+
+abbrev Inv-loop : tie.InvT-loop
+Inv-loop text at₀ at = (at ≤ length text) × Judges text at
+
+abbrev μ-loop : tie.MeasureT-loop
+μ-loop text at₀ at = length text - at
+
+loop-holds : tie.Need-loop-holds Inv-loop μ-loop
+loop-holds c = (omega arith, judge-starts _)
+
+next-requires : tie.Need-next-requires Inv-loop μ-loop
+next-requires c κs = search needs
+
+glyph-requires : tie.Need-glyph-requires Inv-loop μ-loop
+glyph-requires c κs = search needs
+
+is-marked-requires : tie.Need-is-marked-requires Inv-loop μ-loop
+is-marked-requires c κs = search needs
+
+returns : tie.Need-returns Inv-loop μ-loop
+returns c =
+    let l = c .before .before .before .before .before .loop in
+    sym
+    (ap judgedAs
+    (judge-stops (c .before .before .before .before .loop-test .taken) (c .before .before .before .next .ensures .0) (c .before .before .glyph .ensures)
+    (sym (c .before .is-marked .ensures) ∙ not-true _ (c .if1 .taken)) (l .inv .1)))
+
+add-at : tie.Need-add-at Inv-loop μ-loop
+add-at c = let within = c .before .before .before .before .next .ensures .3 in record { fits = omega arith }
+
+loop-less : tie.Need-loop-less Inv-loop μ-loop
+loop-less c = let here = c .before .before .before .before .next .ensures in omega arith
+
+loop-again : tie.Need-loop-again Inv-loop μ-loop
+loop-again c =
+    let l = c .before .before .before .before .before .before .loop in
+    let next = c .before .before .before .before .next .ensures in (
+      next .3,
+      judge-on (c .before .before .before .before .before .loop-test .taken) (next .0) (c .before .before .before .glyph .ensures)
+          (sym (c .before .before .is-marked .ensures) ∙ not-false _ (c .before .if1 .left)) (l .inv .1),
+    )
+
+returns-2 : tie.Need-returns-2 Inv-loop μ-loop
+returns-2 c = sym (ap judgedAs (judge-ends (c .loop-test .left) (c .before .loop .inv .1)))
+
+pub judge-spec : {M : Type 1} → statement M
+judge-spec =
+    tie.close
+    (tie.spec
+    Inv-loop
+    μ-loop
+    loop-holds
+    next-requires
+    glyph-requires
+    is-marked-requires
+    returns
+    add-at
+    loop-less
+    loop-again
+    returns-2)
