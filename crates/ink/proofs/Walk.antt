@@ -1,20 +1,22 @@
 -- Laws of the walk over a text: a mark has four bytes at most, what is marked so far grows by one character's bytes at a time, and a byte's source is found on
 -- the way.
 use Prim.Native.Nat.{ℕ, zero, suc, _+_, _-_, _*_, _≤_, _<_}
-use mathlib.Core.Bool.{Bool, true, false, cond, not, _&&_, _||_}
+use mathlib.Core.Bool.{Bool, true, false, false≢true, cond, not, _&&_, _||_}
 use mathlib.Core.List.{List, [], _∷_, _++_}
-use mathlib.Core.Path.{_≡_, refl, _∙_, ap}
+use mathlib.Core.Path.{_≡_, refl, sym, _∙_, ap}
 use native.Mathlib.Numerals.{add-one}
 use native.Mathlib.Omega.{arith}
 use lib.Dec.{eqb, ltb}
-use lib.ListN.{length, set, drop, length-append}
+use lib.ListN.{length, getD, set, drop, length-append}
 use lib.Seq.{length-take-le}
-use borrow.Author.Tests.{lt-ltb, le-ltb}
+use borrow.Author.Tests.{lt-ltb, le-ltb, eqb-false}
+use Rattle.table.specs.Search.{within}
 use Rattle.table.specs.inside.Wrote.{Wrote}
+use Rattle.table.proofs.Tests.{tells-within}
 use Rattle.table.proofs.Wrote.{put-then}
 use Rattle.ink.specs.Numbers.{codeSign, quoteCode, rightCode, paragraphCode, lineFeed, blank, apostrophe}
 use Rattle.ink.specs.Characters.{nextOf, charactersFrom, charactersOf}
-use Rattle.ink.specs.Glyphs.{glyphOf, isMarked}
+use Rattle.ink.specs.Glyphs.{isOwnSign, isGap, asciiSign, glyphOf, isMarked}
 use Rattle.ink.specs.Marks.{bytesOf, startsLetter, isBlank, wordOf, capitalSigns, letterMark, letterStep, signStep, closeStep, gapStep, feedStep, stepOf, state, start, step, none, one, two, three, Marking, marked, unmarked, markFrom, marking, sourceFrom, sourceOf}
 use Rattle.ink.specs.inside.Steps.{walkedTo, judgedAs, Small, Puts}
 use Rattle.ink.specs.declared.Character.{Character}
@@ -25,7 +27,7 @@ use Rattle.ink.specs.declared.State.{State}
 use Rattle.ink.specs.declared.Step.{Step}
 use Rattle.ink.specs.declared.Judged.the-variants as judged
 use Rattle.ink.specs.declared.Walked.the-variants as walked
-use Rattle.ink.proofs.Characters.{characters-none, characters-more}
+use Rattle.ink.proofs.Characters.{characters-none, characters-more, next-one}
 
 -- ---- A mark has four bytes at most
 
@@ -217,6 +219,44 @@ judge-stops {text} {at} here is-c is-g not-there j = j .goes ∙ mark-stops text
 pub judge-ends : {text : List ℕ} {at : ℕ} → length text ≤ at → (j : Judges text at) → marking text ≡ marked (j .sofar)
 unfolding markFrom
 judge-ends {text} {at} over j = j .goes ∙ rw (characters-none text at over, markFrom)
+
+-- each character of ASCII from the blank to the tilde has a mark
+
+record HasMark (g : Glyph) : Type 0 where
+  has : isMarked g ≡ true
+
+if-marked : (t : Bool) {g h : Glyph} → (t ≡ true → HasMark g) → (t ≡ false → HasMark h) → HasMark (cond t g h)
+if-marked true p q = p refl
+if-marked false p q = q refl
+
+sign-marked : (b : ℕ) → HasMark (asciiSign b)
+unfolding asciiSign
+sign-marked b =
+    if-marked (isOwnSign b) (λ _. record { has = refl })
+    (λ _. if-marked (eqb b 91) (λ _. record { has = refl }) (λ _. if-marked (eqb b 93) (λ _. record { has = refl }) (λ _. record { has = refl })))
+
+-- what is neither the blank nor of 33 to 126 isn't there
+past-gap : (b : ℕ) → 32 ≤ b → b ≤ 126 → isGap b ≡ false → within 33 126 b ≡ false → ⊥
+unfolding isGap
+past-gap b low high n o = go (eqb b 32) refl
+  where
+    go : (t : Bool) → eqb b 32 ≡ t → ⊥
+    go true h = false≢true (sym (rw h at n))
+    go false h =
+        let other = eqb-false b 32 h in
+        false≢true (sym o ∙ tells-within 33 126 b .1 (omega arith))
+
+ascii-marked : (b : ℕ) → 32 ≤ b → b ≤ 126 → HasMark (glyphOf b)
+unfolding glyphOf
+ascii-marked b low high =
+    if-marked (within 97 122 b) (λ _. record { has = refl })
+    (λ _. if-marked (within 65 90 b) (λ _. record { has = refl })
+    (λ _. if-marked (isGap b) (λ _. record { has = refl })
+    (λ n. if-marked (within 33 126 b) (λ _. sign-marked b) (λ o. absurd (past-gap b low high n o)))))
+
+pub judge-ascii : {text : List ℕ} {at : ℕ} → at < length text → 32 ≤ getD text at 0 → getD text at 0 ≤ 126 → Judges text at → Judges text (at + 1)
+judge-ascii {text} {at} here low high j =
+    judge-on here (sym (next-one text at (omega arith))) refl (ascii-marked (getD text at 0) low high .has) j
 
 -- ---- A marked text has at most four bytes for each of the text
 

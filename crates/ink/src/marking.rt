@@ -83,17 +83,22 @@ fn walk(text: &[u8], out: &mut [u8]) -> Walked
     Walked::To(to)
 }
 
-// Whether each character has a mark.
+// Whether each character has a mark, as each of ASCII has from the blank to the tilde.
 fn judge(text: &[u8]) -> Judged
     ensures { λ r. ⌜ r ≡ judgedAs (marking (now (text .entry))) ⌝ }
 {
     let mut at = 0;
     while at < text.len() {
-        let c = next(text, at);
-        if !is_marked(glyph(c.code)) {
-            return Judged::Wrong(at);
+        let b = text[at];
+        if (32 <= b) & (b <= 126) {
+            at += 1;
+        } else {
+            let c = next(text, at);
+            if !is_marked(glyph(c.code)) {
+                return Judged::Wrong(at);
+            }
+            at += c.size;
         }
-        at += c.size;
     }
     Judged::Fine
 }

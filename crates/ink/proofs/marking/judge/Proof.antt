@@ -6,8 +6,10 @@ use mathlib.Core.Path.{_≡_, sym, _∙_, ap}
 use native.Mathlib.Omega.{arith}
 use lib.ListN.{length}
 use borrow.Author.Tests.{not-true, not-false}
+use Rattle.table.specs.Refusals.{Between}
+use Rattle.table.proofs.Tests.{tells-within}
 use Rattle.ink.specs.inside.Steps.{judgedAs}
-use Rattle.ink.proofs.Walk.{Judges, judge-starts, judge-on, judge-stops, judge-ends}
+use Rattle.ink.proofs.Walk.{Judges, judge-starts, judge-on, judge-ascii, judge-stops, judge-ends}
 use Rattle.ink.proofs.marking.judge.Statement.{statement}
 use Rattle.ink.proofs.marking.judge.Tie as tie
 
@@ -20,6 +22,22 @@ abbrev μ-loop : tie.MeasureT-loop
 loop-holds : tie.Need-loop-holds Inv-loop μ-loop
 loop-holds c = (omega arith, judge-starts _)
 
+shared-slice-read-b : tie.Need-shared-slice-read-b Inv-loop μ-loop
+shared-slice-read-b c = search needs
+
+add-at : tie.Need-add-at Inv-loop μ-loop
+add-at c = search needs
+
+loop-less : tie.Need-loop-less Inv-loop μ-loop
+loop-less c = search needs
+
+loop-again : tie.Need-loop-again Inv-loop μ-loop
+loop-again c = (
+  omega arith,
+  (let b : Between 32 126 _ = tells-within 32 126 _ .0 (c .if1 .taken) in
+      judge-ascii (c .before .before .loop-test .taken) (b .low) (b .high) (c .before .before .before .loop .inv .1)),
+)
+
 next-requires : tie.Need-next-requires Inv-loop μ-loop
 next-requires c κs = search needs
 
@@ -31,26 +49,18 @@ is-marked-requires c κs = search needs
 
 returns : tie.Need-returns Inv-loop μ-loop
 returns c =
-    let l = c .before .before .before .before .before .loop in
-    sym
-    (ap judgedAs
-    (judge-stops (c .before .before .before .before .loop-test .taken) (c .before .before .before .next .ensures .0) (c .before .before .glyph .ensures)
-    (sym (c .before .is-marked .ensures) ∙ not-true _ (c .if1 .taken)) (l .inv .1)))
+    sym (ap judgedAs (judge-stops (c .before .before .before .before .before .before .loop-test .taken) (c .before .before .before .next .ensures .0) (c .before .before .glyph .ensures) (sym (c .before .is-marked .ensures) ∙ not-true _ (c .if2 .taken)) (c .before .before .before .before .before .before .before .loop .inv .1)))
 
-add-at : tie.Need-add-at Inv-loop μ-loop
-add-at c = let within = c .before .before .before .before .next .ensures .3 in record { fits = omega arith }
+add-at-2 : tie.Need-add-at-2 Inv-loop μ-loop
+add-at-2 c = let within = c .before .before .before .before .next .ensures .3 in record { fits = omega arith }
 
-loop-less : tie.Need-loop-less Inv-loop μ-loop
-loop-less c = let here = c .before .before .before .before .next .ensures in omega arith
+loop-less-2 : tie.Need-loop-less-2 Inv-loop μ-loop
+loop-less-2 c = let here = c .before .before .before .before .next .ensures in omega arith
 
-loop-again : tie.Need-loop-again Inv-loop μ-loop
-loop-again c =
-    let l = c .before .before .before .before .before .before .loop in
-    let next = c .before .before .before .before .next .ensures in (
-      next .3,
-      judge-on (c .before .before .before .before .before .loop-test .taken) (next .0) (c .before .before .before .glyph .ensures)
-          (sym (c .before .before .is-marked .ensures) ∙ not-false _ (c .before .if1 .left)) (l .inv .1),
-    )
+loop-again-2 : tie.Need-loop-again-2 Inv-loop μ-loop
+loop-again-2 c =
+    let next = c .before .before .before .before .next .ensures in
+    (omega arith, judge-on (c .before .before .before .before .before .before .before .loop-test .taken) (next .0) (c .before .before .before .glyph .ensures) (sym (c .before .before .is-marked .ensures) ∙ not-false _ (c .before .if2 .left)) (c .before .before .before .before .before .before .before .before .loop .inv .1))
 
 returns-2 : tie.Need-returns-2 Inv-loop μ-loop
 returns-2 c = sym (ap judgedAs (judge-ends (c .loop-test .left) (c .before .loop .inv .1)))
@@ -62,11 +72,15 @@ judge-spec =
     Inv-loop
     μ-loop
     loop-holds
+    shared-slice-read-b
+    add-at
+    loop-less
+    loop-again
     next-requires
     glyph-requires
     is-marked-requires
     returns
-    add-at
-    loop-less
-    loop-again
+    add-at-2
+    loop-less-2
+    loop-again-2
     returns-2)
