@@ -1,5 +1,5 @@
-// The whole text: it is walked once to see that each character has a mark and to measure, and once
-// more to write, so a refused call changes no byte.
+// The whole text: it is judged, or measured where there may be no room for it, and then written, so a
+// refused call changes no byte.
 
 ghost use mathlib.Core.List.{List};
 ghost use mathlib.Core.Path.{_≡_};

@@ -5,9 +5,8 @@ use Prim.Native.Nat.{_-_, _≤_}
 use mathlib.Core.Path.{_≡_, sym, _∙_, ap}
 use native.Mathlib.Omega.{arith}
 use lib.ListN.{length}
-use borrow.Author.Tests.{not-true, not-false}
-use Rattle.table.specs.Refusals.{Between}
-use Rattle.table.proofs.Tests.{tells-within}
+use borrow.Author.Tests.{leb-true, not-true, not-false}
+use Rattle.table.proofs.Tests.{both}
 use Rattle.ink.specs.inside.Steps.{judgedAs}
 use Rattle.ink.proofs.Walk.{Judges, judge-starts, judge-on, judge-ascii, judge-stops, judge-ends}
 use Rattle.ink.proofs.marking.judge.Statement.{statement}
@@ -34,8 +33,8 @@ loop-less c = search needs
 loop-again : tie.Need-loop-again Inv-loop μ-loop
 loop-again c = (
   omega arith,
-  (let b : Between 32 126 _ = tells-within 32 126 _ .0 (c .if1 .taken) in
-      judge-ascii (c .before .before .loop-test .taken) (b .low) (b .high) (c .before .before .before .loop .inv .1)),
+  (let ascii = both _ _ (c .if1 .taken) in
+      judge-ascii (c .before .before .loop-test .taken) (leb-true _ _ (ascii .0)) (leb-true _ _ (ascii .1)) (c .before .before .before .loop .inv .1)),
 )
 
 next-requires : tie.Need-next-requires Inv-loop μ-loop
