@@ -138,11 +138,11 @@ abbrev pub stageAfter : ℕ → ℕ → ℕ → ℕ
 stageAfter zero before rank = before
 stageAfter (suc n) before rank = rank
 
-abbrev draft : Draft → ℕ → ℕ → ℕ → ℕ → ℕ → ℕ → Draft
-draft h stage l e c t x =
+abbrev draftOf : Bool → Draft → ℕ → ℕ → ℕ → ℕ → ℕ → ℕ → Draft
+draftOf dated h stage l e c t x =
     record {
       stage = stage;
-      dated = h .dated;
+      dated = dated;
       classes = h .classes;
       variables = h .variables;
       letters = l;
@@ -152,6 +152,9 @@ draft h stage l e c t x =
       decisions = x;
     }
 
+abbrev draft : Draft → ℕ → ℕ → ℕ → ℕ → ℕ → ℕ → Draft
+draft h = draftOf (h .dated) h
+
 staged : (n before rank : ℕ) → 3 ≤ before → before ≤ rank → Between 3 rank (stageAfter n before rank)
 staged zero before rank a b = record { low = a; high = b }
 staged (suc n) before rank a b = record { low = omega arith; high = omega arith }
@@ -159,6 +162,11 @@ staged (suc n) before rank a b = record { low = omega arith; high = omega arith 
 or-false : (b : Bool) → b || false ≡ b
 or-false true = refl
 or-false false = refl
+
+-- a draft with one line more: `dated` is as it was, and each count is what it comes to
+counted : (h : Draft) (stage : ℕ) {l l' e e' c c' t t' x x' : ℕ} → l ≡ l' → e ≡ e' → c ≡ c' → t ≡ t' → x ≡ x'
+    → draftOf (h .dated || false) h stage l e c t x ≡ draft h stage l' e' c' t' x'
+counted h stage l e c t x = λ i. draftOf (or-false (h .dated) i) h stage (l i) (e i) (c i) (t i) (x i)
 
 module _ (h : Draft) (before : ℕ) (low : 3 ≤ before) where
   in-order : (rank j : ℕ) → before ≤ rank → within 3 rank (stageAfter j before rank) ≡ true
@@ -171,17 +179,7 @@ module _ (h : Draft) (before : ℕ) (low : 3 ≤ before) where
         order = λ j u. in-order 4 j high;
         room = λ j u. tells-lt j mostLetters .1 (omega arith);
         fields = λ j. refl;
-        next = λ j b. λ i. record {
-          stage = 4;
-          dated = or-false (h .dated) i;
-          classes = h .classes;
-          variables = h .variables;
-          letters = add-one j i;
-          entries = 0;
-          contexts = 0;
-          transitions = 0;
-          decisions = 0;
-        };
+        next = λ j b. counted h 4 (add-one j) refl refl refl refl;
         bytes = λ rec. refl;
       }
 
@@ -192,17 +190,7 @@ module _ (h : Draft) (before : ℕ) (low : 3 ≤ before) where
         order = λ j u. in-order 5 j high;
         room = λ j u. tells-lt j mostEntries .1 (omega arith);
         fields = λ j. refl;
-        next = λ j b. λ i. record {
-          stage = 5;
-          dated = or-false (h .dated) i;
-          classes = h .classes;
-          variables = h .variables;
-          letters = add-zero l i;
-          entries = add-one j i;
-          contexts = 0;
-          transitions = 0;
-          decisions = 0;
-        };
+        next = λ j b. counted h 5 (add-zero l) (add-one j) refl refl refl;
         bytes = λ rec. refl;
       }
 
@@ -213,17 +201,7 @@ module _ (h : Draft) (before : ℕ) (low : 3 ≤ before) where
         order = λ j u. in-order 6 j high;
         room = λ j u. tells-lt j mostContexts .1 (omega arith);
         fields = λ j. refl;
-        next = λ j b. λ i. record {
-          stage = 6;
-          dated = or-false (h .dated) i;
-          classes = h .classes;
-          variables = h .variables;
-          letters = add-zero l i;
-          entries = add-zero e i;
-          contexts = add-one j i;
-          transitions = 0;
-          decisions = 0;
-        };
+        next = λ j b. counted h 6 (add-zero l) (add-zero e) (add-one j) refl refl;
         bytes = λ rec. refl;
       }
 
@@ -234,17 +212,7 @@ module _ (h : Draft) (before : ℕ) (low : 3 ≤ before) where
         order = λ j u. in-order 7 j high;
         room = λ j u. tells-lt j (h .variables) .1 (omega arith);
         fields = λ j. refl;
-        next = λ j b. λ i. record {
-          stage = 7;
-          dated = or-false (h .dated) i;
-          classes = h .classes;
-          variables = h .variables;
-          letters = add-zero l i;
-          entries = add-zero e i;
-          contexts = add-zero c i;
-          transitions = add-one j i;
-          decisions = 0;
-        };
+        next = λ j b. counted h 7 (add-zero l) (add-zero e) (add-zero c) (add-one j) refl;
         bytes = λ rec. refl;
       }
 
@@ -255,17 +223,7 @@ module _ (h : Draft) (before : ℕ) (low : 3 ≤ before) where
         order = λ j u. in-order 8 j high;
         room = λ j u. tells-lt j mostColumns .1 (omega arith);
         fields = λ j. refl;
-        next = λ j b. λ i. record {
-          stage = 8;
-          dated = or-false (h .dated) i;
-          classes = h .classes;
-          variables = h .variables;
-          letters = add-zero l i;
-          entries = add-zero e i;
-          contexts = add-zero c i;
-          transitions = add-zero t i;
-          decisions = add-one j i;
-        };
+        next = λ j b. counted h 8 (add-zero l) (add-zero e) (add-zero c) (add-zero t) (add-one j);
         bytes = λ rec. refl;
       }
 
