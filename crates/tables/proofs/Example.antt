@@ -111,6 +111,60 @@ pub example-made :
 unfolding computing textOf
 example-made out = refl
 
+-- ---- Years, of which either may be missing, to the last that there is
+
+abbrev pub yearsImage : List ℕ
+yearsImage =
+    32 ∷ 1 ∷ 0 ∷ 65 ∷ 1 ∷ 1 ∷ 66 ∷ 1 ∷ 3
+    ∷ 1 ∷ 65 ∷ 0 ∷ 0 ∷ 0 ∷ 0 ∷ 0 ∷ 0 ∷ 0 ∷ 0 ∷ 0 ∷ 0 ∷ 1 ∷ 1 ∷ 7 ∷ 99 ∷ 99 ∷ 99 ∷ 140 ∷ 7 ∷ 255 ∷ 255
+    ∷ 1 ∷ 66 ∷ 0 ∷ 0 ∷ 0 ∷ 0 ∷ 0 ∷ 0 ∷ 0 ∷ 0 ∷ 0 ∷ 0 ∷ 1 ∷ 1 ∷ 99 ∷ 99 ∷ 99 ∷ 99 ∷ 0 ∷ 0 ∷ 223 ∷ 7
+    ∷ 1 ∷ 32 ∷ 0 ∷ 0 ∷ 0 ∷ 0 ∷ 0 ∷ 0 ∷ 0 ∷ 0 ∷ 0 ∷ 0 ∷ 1 ∷ 1 ∷ 99 ∷ 99 ∷ 99 ∷ 99 ∷ 0 ∷ 0 ∷ 255 ∷ 255
+    ∷ 2 ∷ 32 ∷ 65 ∷ 0 ∷ 0 ∷ 0 ∷ 0 ∷ 0 ∷ 0 ∷ 0 ∷ 0 ∷ 0 ∷ 1 ∷ 1 ∷ 1 ∷ 2 ∷ 3 ∷ 4 ∷ 255 ∷ 255 ∷ 255 ∷ 255
+    ∷ 71
+    ∷ 98 ∷ 0 ∷ 89 ∷ 0 ∷ 1 ∷ 0 ∷ 1 ∷ 0 ∷ 1 ∷ 0 ∷ 1 ∷ 0 ∷ 66 ∷ 52 ∷ []
+
+pub example-years-made :
+    (out : List ℕ)
+    → making
+    (textOf
+    ("dated"
+    ∷ "classes 1"
+    ∷ "variables 0"
+    ∷ "letter _ 1 0"
+    ∷ "letter A 1 1"
+    ∷ "letter B 1 3"
+    ∷ "entry A 1 - = : 7 from 1932"
+    ∷ "entry B 1 - = : to 2015"
+    ∷ "entry _ 1 - = :"
+    ∷ "entry _A 1 - 1 : 1 2 3 4 from 65535 to 65535"
+    ∷ "decision G"
+    ∷ []))
+    out
+    ≡ roomed out yearsImage
+unfolding computing textOf
+example-years-made out = refl
+
+pub example-years-shown :
+    shown yearsImage
+    ≡ textOf
+    ("dated"
+    ∷ "classes  1"
+    ∷ "variables  0"
+    ∷ ""
+    ∷ "letter _   1  0"
+    ∷ "letter A   1  1"
+    ∷ "letter B   1  3"
+    ∷ ""
+    ∷ "entry A           1 -  = :  7          from 1932"
+    ∷ "entry B           1 -  = :             to 2015"
+    ∷ "entry _           1 -  = :"
+    ∷ "entry _A          1 -  1 :  1  2  3  4 from 65535"
+    ∷ ""
+    ∷ "decision G"
+    ∷ [])
+unfolding computing textOf
+example-years-shown = refl
+
 -- symbols that the form itself uses: the letters blank, #, _ and \, a string of three of them
 pub example-symbols :
     making (textOf ("classes 1" ∷ "variables 0" ∷ "letter _ 1 0" ∷ "letter \\# 1 1" ∷ "letter \\_ 1 2" ∷ "letter \\\\ 1 3" ∷ "entry _\\#\\_\\\\ 1 - 2 :" ∷ "decision G" ∷ []))
@@ -156,6 +210,23 @@ pub example-later-slips :
     ∷ []
 unfolding computing textOf after
 example-later-slips = refl
+
+-- the last year and the largest byte, which are of the form (8: no byte is lent), and what is past them; the first and the last symbol, and what is beside them
+pub example-ends :
+    told ("dated" ∷ "classes 1" ∷ "variables 0" ∷ "letter _ 255 255" ∷ "entry _ 255 255 255 : 255 from 65535" ∷ [])
+    ∷ told ("dated" ∷ "classes 1" ∷ "variables 0" ∷ "letter _ 1 0" ∷ "entry _ 1 - = : from 65536" ∷ []) ∷ told ("classes 1" ∷ "variables 0" ∷ "letter _ 1 256" ∷ [])
+    ∷ []
+    ≡ (8 ∷ 39 ∷ 0 ∷ 0 ∷ []) ∷ (22 ∷ 66 ∷ 5 ∷ 26 ∷ []) ∷ (22 ∷ 35 ∷ 3 ∷ 14 ∷ []) ∷ []
+unfolding computing textOf
+example-ends = refl
+
+pub example-symbol-ends :
+    map
+    (λ (c : ℕ). let a = making (ascii "classes 1\nvariables 0\nletter " ++ c ∷ ascii " 1 1") [] .answer in numberOf a ∷ placeOf a ∷ [])
+    (31 ∷ 33 ∷ 126 ∷ 127 ∷ [])
+    ≡ (22 ∷ 29 ∷ []) ∷ (8 ∷ 17 ∷ []) ∷ (8 ∷ 17 ∷ []) ∷ (22 ∷ 29 ∷ []) ∷ []
+unfolding computing
+example-symbol-ends = refl
 
 -- ---- How many lines of each kind there may be
 
