@@ -12,14 +12,14 @@ ghost use Rattle.dates.specs.Promises.{Ends};
 ghost use Rattle.dates.specs.inside.Putting.{Accepts};
 use crate::Moved;
 use crate::putting::put_image;
+use framing::locate;
+use framing::years_of;
+use judge::check;
 use table::Found;
 use table::Refusal;
 use table::Section;
 use table::Sections;
 use table::Verdict;
-use table::check;
-use table::locate;
-use table::years_of;
 
 // Whether the trailer says that contraction records have years.
 fn is_dated(image: &[u8]) -> bool

@@ -197,7 +197,7 @@ fn read(asked: Asked) -> i32 {
 // ---- Tables
 
 fn check_table(asked: Asked, image: &[u8], text: &[u8]) -> i32 {
-    match table::check(image) {
+    match judge::check(image) {
         Verdict::Accepted => {
             if print_table(image, asked.year) {
                 return 0;
@@ -222,7 +222,7 @@ fn stamp_table(image: &[u8], text: &[u8]) -> i32 {
 // A mover refuses a table with 1 where it is wrong, and where it has the other form already.
 fn not_moved(number: u8, place: usize, image: &[u8], text: &[u8], form: &[u8]) -> i32 {
     if number == 1 {
-        if let Verdict::Accepted = table::check(image) {
+        if let Verdict::Accepted = judge::check(image) {
             say_refused(number, place);
             say(b": this table has the ");
             say(form);
@@ -268,7 +268,7 @@ fn keep_made(asked: Asked, image: &[u8], text: &[u8]) -> i32 {
     if status != 0 {
         return status;
     }
-    match table::check(image) {
+    match judge::check(image) {
         Verdict::Accepted => 0,
         Verdict::Refused(r) => refused_table(r.number(), r.place(), image, text),
     }

@@ -7,14 +7,14 @@ use crate::lining::line_of;
 use crate::saying::say;
 use crate::saying::say_number;
 use console::write_whole;
+use framing::locate;
+use framing::record_byte;
+use framing::record_part;
+use framing::years_of;
 use libc::STDOUT_FILENO;
 use stamp::Stamped;
 use table::Section;
 use table::Sections;
-use table::locate;
-use table::record_byte;
-use table::record_part;
-use table::years_of;
 
 // A byte of a record: the number of the record, and of the byte in it, from 0.
 struct Where {

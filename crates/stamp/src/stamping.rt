@@ -4,8 +4,8 @@
 ghost use mathlib.Core.Path.{_≡_};
 ghost use Rattle.stamp.specs.Promises.{Stamps};
 use crate::Stamped;
+use judge::check;
 use table::Verdict;
-use table::check;
 
 fn wide(b: u8) -> u32
     ensures { λ r. ⌜ r ≡ b ⌝ }

@@ -5,17 +5,13 @@ pub mod Tests
 pub mod Forms
 pub mod Frame
 pub mod RightRecords
-pub mod RuleTests
 pub mod SectionOrder
 pub mod FirstWrong
-pub mod LetterNumbers
 pub mod Grouping
 pub mod GroupLaws
-pub mod VerdictSteps
 pub mod FirstLine
 pub mod Refusals
 pub mod Example
-pub mod Limits
 pub mod Product
 pub mod Promises
 pub mod Distances
@@ -23,4 +19,3 @@ pub mod Laid
 pub mod Reading
 pub mod Sound
 pub mod Largest
-pub mod Walks

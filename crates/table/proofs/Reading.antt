@@ -8,7 +8,7 @@ use native.Mathlib.Omega.{arith}
 use lib.ListN.{length, getD, drop, length-drop}
 use lib.Seq.{length-take-le, getD-take, getD-drop}
 use borrow.Author.Tests.{le-leb}
-use Rattle.table.specs.Sections.{byteAt, bytesFrom, sectionsIn, frameRight, sectionsOf, offset, recordByte, recordPart, firstYear, lastYear}
+use Rattle.table.specs.Sections.{byteAt, bytesFrom, sectionsIn, frameRight, sectionsOf, offset, recordByte, recordPart, partWithin, firstYear, lastYear}
 use Rattle.table.specs.Numbers.{
   symbolByte,
   letterClassByte,
@@ -27,7 +27,6 @@ use Rattle.table.specs.Records.{contractions, sectionNamed}
 use Rattle.table.specs.Refusals.{RecordsRight}
 use Rattle.table.specs.Table.{Letter, Entry, Column, letterAt, entryAt, contextAt, transitionAt, columnAt, tableIn, tableOf}
 use Rattle.table.specs.Verdict.{verdictOf}
-use Rattle.table.specs.Promises.{partWithin}
 use Rattle.table.specs.Laid.{SectionsLaid}
 use Rattle.table.specs.declared.Section.{Section}
 use Rattle.table.specs.declared.Sections.{Sections}

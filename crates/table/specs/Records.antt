@@ -142,5 +142,9 @@ firstWrongOf image s (name ∷ names) = elim (wrongIn image s name) [ none ↦ f
 abbrev pub imageOrder : List SectionName
 imageOrder = alphabet ∷ contractions ∷ contexts ∷ transitions ∷ decisions ∷ []
 
+-- the section with this number in that order, counted from 0; from 4 on the decisions
+abbrev pub nameAt : ℕ → SectionName
+nameAt i = getD imageOrder i decisions
+
 unfoldable pub firstWrong : List ℕ → Sections → Option Wrong
 firstWrong image s = firstWrongOf image s imageOrder

@@ -2,7 +2,7 @@
 -- records, and the frame: all that answer 1 covers. And the bytes and the years of a record.
 use Prim.Native.Nat.{ℕ, _+_, _-_, _*_, _/_}
 use mathlib.Core.Bool.{Bool, true, false, cond, _&&_, _||_}
-use mathlib.Core.List.{List}
+use mathlib.Core.List.{List, []}
 use lib.ListN.{length, getD, take, drop}
 use lib.Dec.{leb, eqb}
 use Rattle.table.specs.Numbers.{trailerSize, distanceSize, lowByteRoom, classesByte, variablesByte, firstMarkByte, secondMarkByte, firstMark, secondMark, datedMark, leastClasses, mostClasses, mostVariables, letterSize, leastLetters, mostLetters, entrySize, datedEntrySize, leastEntries, mostEntries, contextSize, leastContexts, mostContexts, leastColumns, mostColumns, firstYearByte, lastYearByte, earliestYear, latestYear}
@@ -136,6 +136,10 @@ recordByte image s k j = byteAt image (offset s k + j)
 -- the `n` bytes from byte `j` of record `k` on
 unfoldable pub recordPart : List ℕ → Section → ℕ → ℕ → ℕ → List ℕ
 recordPart image s k j n = bytesFrom image (offset s k + j) n
+
+-- the same where all of them lie within the image, and nothing where they don't
+unfoldable pub partWithin : List ℕ → Section → ℕ → ℕ → ℕ → List ℕ
+partWithin image s k j n = cond (leb (offset s k + j + n) (length image)) (recordPart image s k j n) []
 
 -- ---- The years of contraction record `k`, both counted in. Records that have none count as always in force
 

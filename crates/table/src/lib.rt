@@ -1,22 +1,9 @@
-// A contraction table's stored image, with years on its entries or without: where its five sections
-// lie, what is wrong with it, if anything, and its records, read where they lie; and the refusals of
-// every call. No function has to be asked with care: each answers for every image and every index.
-// What each answer means is said in specs/.
+// A contraction table's stored image, with years on its entries or without: its five sections and
+// its years as values, the verdicts on it, and the refusals of every call, with their numbers and
+// places. What an image means, and what is wrong with one, is said in specs/ for all the crates
+// above, and the laws about that are in proofs/. `framing` reads images, and `judge` judges them.
 
-mod framing;
-mod groups;
-mod judge;
-mod opening;
-mod read;
-mod records;
 mod refusing;
-
-pub use framing::locate;
-pub use opening::check;
-pub use opening::open;
-pub use read::record_byte;
-pub use read::record_part;
-pub use read::years_of;
 
 // One section of the image: the offset of its first byte, the bytes of one record, and how many
 // records it has.
@@ -68,13 +55,6 @@ pub enum Refusal {
 pub enum Verdict {
     Accepted,
     Refused(Refusal),
-}
-
-// An opened image: the image as it was lent, its sections, and the verdict on it.
-pub struct Reader<'a> {
-    pub image: &'a [u8],
-    pub sections: Sections,
-    pub verdict: Verdict,
 }
 
 // What a search answers: the number of a record in its section, of a byte in its record, or a place

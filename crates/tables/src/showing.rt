@@ -15,13 +15,13 @@ use crate::Drawn;
 use crate::Keyword;
 use crate::putting::put;
 use crate::putting::put_line;
+use framing::locate;
+use framing::record_part;
+use judge::check;
 use table::Refusal;
 use table::Section;
 use table::Sections;
 use table::Verdict;
-use table::check;
-use table::locate;
-use table::record_part;
 
 // What the first lines say.
 fn head_of(s: Sections) -> Draft

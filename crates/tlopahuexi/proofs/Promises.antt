@@ -2,7 +2,7 @@
 use Prim.Native.Nat.{ℕ}
 use mathlib.Core.List.{List}
 use mathlib.Core.Path.{_≡_, sym, ap, _∙_}
-use Rattle.table.proofs.Promises.{check-determined}
+use Rattle.judge.proofs.Promises.{check-determined}
 use Rattle.stamp.proofs.Promises.{stamp-determined}
 use Rattle.dates.specs.Moving.{Outcome}
 use Rattle.tables.specs.Calls.{Outcome as OutcomeOfDrawn}

@@ -4,7 +4,8 @@ use Prim.Native.Nat.{ℕ}
 use mathlib.Core.List.{List, [], _∷_}
 use mathlib.Core.Path.{_≡_, refl}
 use Rattle.table.specs.Numbers.{numberDone, noPlace}
-use Rattle.table.specs.Promises.{Checked, RefusalNumber, RefusalPlace}
+use Rattle.judge.specs.Promises.{Checked}
+use Rattle.table.specs.Promises.{RefusalNumber, RefusalPlace}
 use Rattle.table.specs.declared.Refusal.{Refusal}
 use Rattle.table.specs.declared.Verdict.{Verdict}
 use Rattle.table.specs.declared.Verdict.the-variants.{Accepted, Refused}

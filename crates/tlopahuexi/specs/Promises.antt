@@ -5,7 +5,7 @@ use mathlib.Core.List.{List, [], _∷_}
 use mathlib.Core.Path.{_≡_}
 use Rattle.table.specs.Numbers.{numberDone, noPlace}
 use Rattle.table.specs.Answers.{refusalNumber, refusalPlace}
-use Rattle.table.specs.Promises.{Checked}
+use Rattle.judge.specs.Promises.{Checked}
 use Rattle.table.specs.declared.Verdict.{Verdict}
 use Rattle.table.specs.declared.Verdict.the-variants.{Accepted, Refused}
 use Rattle.stamp.specs.Stamping.{number as numberOfStamped, place as placeOfStamped, first, second}

@@ -1,8 +1,8 @@
 // The check of a table image for programs in other languages.
 
 ghost use Rattle.tlopahuexi.specs.Promises.{Judged};
+use judge::check;
 use table::Verdict;
-use table::check;
 
 // Checks a table image, of either form, and stores the verdict's two values: number and place, 0
 // and 0 where it is accepted. It needs 1,700 bytes of stack, whatever it is asked (bench/stack).

@@ -12,7 +12,7 @@ use Rattle.table.specs.Numbers.{lengthByte, stringByte, contextByte, signsByte,
 use Rattle.table.specs.Search.{within, member}
 use Rattle.table.specs.Records.{contractions, sectionNamed}
 use Rattle.table.specs.Sections.{recordByte, firstYear, lastYear}
-use Rattle.table.specs.Promises.{partWithin}
+use Rattle.table.specs.Sections.{partWithin}
 use Rattle.table.specs.Refusals.{RightEntry}
 use Rattle.table.specs.Table.{tableIn, entryAt}
 use Rattle.table.specs.declared.Sections.{Sections}

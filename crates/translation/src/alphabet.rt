@@ -39,7 +39,7 @@ pub(crate) fn class_of(image: &[u8], s: Sections, c: u8) -> u8
 {
     let alphabet = s.alphabet;
     match letter_of(image, s, c) {
-        Found::At(k) => table::record_byte(image, alphabet, k, 1),
+        Found::At(k) => framing::record_byte(image, alphabet, k, 1),
         Found::Nothing => 0,
     }
 }
@@ -51,7 +51,7 @@ pub(crate) fn sign_of(image: &[u8], s: Sections, c: u8) -> u8
 {
     let alphabet = s.alphabet;
     match letter_of(image, s, c) {
-        Found::At(k) => table::record_byte(image, alphabet, k, 2),
+        Found::At(k) => framing::record_byte(image, alphabet, k, 2),
         Found::Nothing => 99,
     }
 }

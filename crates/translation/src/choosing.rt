@@ -46,8 +46,8 @@ fn begins(image: &[u8], entries: Section, k: u16, rest: &[u8]) -> bool
     ensures { λ r. ⌜ r ≡ begins (recordPart (now (image .entry)) entries k stringByte (recordByte (now (image .entry)) entries k lengthByte))
         (now (rest .entry)) ⌝ }
 {
-    let n = table::record_byte(image, entries, k, 0) as u16;
-    starts(table::record_part(image, entries, k, 1, n), rest)
+    let n = framing::record_byte(image, entries, k, 0) as u16;
+    starts(framing::record_part(image, entries, k, 1, n), rest)
 }
 
 // The class of the character after the first `n` of the rest; past the end of text, of the symbol
@@ -84,16 +84,16 @@ fn context_holds(image: &[u8], s: Sections, setting: Setting, k: u16, rest: &[u8
     ensures { λ r. ⌜ r ≡ contextHolds (tableIn (now (image .entry)) s) setting (now (rest .entry)) (entryAt (now (image .entry)) s k) ⌝ }
 {
     let entries = s.contractions;
-    let number = table::record_byte(image, entries, k, 11);
+    let number = framing::record_byte(image, entries, k, 11);
     if number == 0 {
         return true;
     }
-    let n = table::record_byte(image, entries, k, 0) as usize;
+    let n = framing::record_byte(image, entries, k, 0) as usize;
     let c = class_after(image, s, setting, rest, n);
     let contexts = s.contexts;
     holds(
         c,
-        table::record_part(image, contexts, (number - 1) as u16, 0, 4),
+        framing::record_part(image, contexts, (number - 1) as u16, 0, 4),
     )
 }
 
@@ -101,7 +101,7 @@ fn context_holds(image: &[u8], s: Sections, setting: Setting, k: u16, rest: &[u8
 fn in_force(image: &[u8], entries: Section, k: u16, year: u16) -> bool
     ensures { λ r. ⌜ r ≡ within (firstYear (now (image .entry)) entries k) (lastYear (now (image .entry)) entries k) year ⌝ }
 {
-    let years = table::years_of(image, entries, k);
+    let years = framing::years_of(image, entries, k);
     (years.first <= year) & (year <= years.last)
 }
 
@@ -123,7 +123,12 @@ fn admits(image: &[u8], s: Sections, setting: Setting, states: States, k: u16, r
     if !context_holds(image, s, setting, k, rest) {
         return false;
     }
-    decide(image, s, states, table::record_byte(image, entries, k, 12))
+    decide(
+        image,
+        s,
+        states,
+        framing::record_byte(image, entries, k, 12),
+    )
 }
 
 // The first admissible entry in table order. Of each entry its first character is looked at before

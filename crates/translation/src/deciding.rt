@@ -35,7 +35,7 @@ pub(crate) fn byte_of_class(image: &[u8], section: Section, k: u16, classes: u16
 {
     let j = place_of(c);
     if j < classes {
-        table::record_byte(image, section, k, j)
+        framing::record_byte(image, section, k, j)
     } else {
         45
     }
@@ -64,7 +64,7 @@ fn condition_holds(image: &[u8], s: Sections, states: States, k: u16, v: u16) ->
     let at = s.classes + v;
     let yes = states.yes;
     let i = v as usize;
-    meets(table::record_byte(image, decisions, k, at), yes[i])
+    meets(framing::record_byte(image, decisions, k, at), yes[i])
 }
 
 // Whether a column's conditions all hold.

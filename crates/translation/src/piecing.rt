@@ -77,10 +77,10 @@ fn by_entry(image: &[u8], s: Sections, k: u16, signs: &mut [u8], at: usize) -> P
     ensures { λ r. ⌜ MadeByEntry (entryAt (now (image .entry)) s k) (now (signs .entry)) at (now (signs .exit)) r ⌝ }
 {
     let entries = s.contractions;
-    let next = print_all(table::record_part(image, entries, k, 14, 4), signs, at);
+    let next = print_all(framing::record_part(image, entries, k, 14, 4), signs, at);
     Piece {
-        shift: table::record_byte(image, entries, k, 13) as usize,
-        class: table::record_byte(image, entries, k, 12),
+        shift: framing::record_byte(image, entries, k, 13) as usize,
+        class: framing::record_byte(image, entries, k, 12),
         next: next,
     }
 }

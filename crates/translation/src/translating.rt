@@ -4,7 +4,8 @@
 ghost use Prim.Native.Nat.{_*_, _≤_};
 ghost use lib.ListN.{length};
 ghost use Rattle.table.specs.Numbers.{entrySigns, mostText};
-ghost use Rattle.table.specs.Promises.{Located, Checked, Reads};
+ghost use Rattle.framing.specs.Promises.{Located};
+ghost use Rattle.judge.specs.Promises.{Checked, Reads};
 ghost use Rattle.table.specs.Table.{tableIn};
 ghost use Rattle.translation.specs.inside.Opened.{Opened};
 ghost use Rattle.translation.specs.Translate.{translateBy, translateOn};
@@ -17,8 +18,8 @@ use crate::alphabet::first_unknown;
 use crate::alphabet::is_known;
 use crate::collapsing::collapse;
 use crate::piecing::consume;
+use judge::Reader;
 use table::Found;
-use table::Reader;
 use table::Refusal;
 use table::Sections;
 use table::Verdict;
@@ -92,7 +93,7 @@ fn translate_on(terms: Terms, image: &[u8], text: &[u8], signs: &mut [u8]) -> Tr
     requires { ⌜ entrySigns * mostText ≤ length (now signs) ⌝ }
     ensures { λ r. ⌜ Ends (handed (now (signs .entry)) (translateOn terms (now (image .entry)) (now (text .entry)))) r (now (signs .exit)) ⌝ }
 {
-    let r = table::open(image);
+    let r = judge::open(image);
     translate_read(r, terms, text, signs)
 }
 

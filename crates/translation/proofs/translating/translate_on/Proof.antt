@@ -1,4 +1,4 @@
--- `translation::translating::translate_on` meets its contract: a walk of its MIR by hand. `table::open` is lent the image and its lifetime's token alone; the
+-- `translation::translating::translate_on` meets its contract: a walk of its MIR by hand. `judge::open` is lent the image and its lifetime's token alone; the
 -- reader that it returns is stored as it came and passed on, with all three tokens. It holds the image itself, so what is said of its image is said of ours.
 use mathlib.Core.Path.{refl, sym, subst}
 use Prim.Native.Nat.{ℕ, _*_, _≤_}
@@ -33,13 +33,13 @@ use denote.Triple.Spec.{Meets}
 use denote.Triple.Statement.{Triple}
 use denote.Triple.Walked.{needs}
 use Rattle.table.specs.Numbers.{entrySigns, mostText}
-use Rattle.table.specs.Promises.{Reads}
-use Rattle.table.specs.declared.Reader.{Reader}
-use Rattle.table.proofs.Walks.{Met, starts, calls, ends, of-local, gone, known, framed, closes, Bytes, Buffer, bytes, bytes-typed, buffer-typed, reader-typed}
-use Rattle.table.proofs.open as opens
-use Rattle.table.proofs.open.Symbol as open-def
-use Rattle.table.proofs.open.Symbol.{name as #table·open}
-use Rattle.table.proofs.open.Met as open-thm
+use Rattle.judge.specs.Promises.{Reads}
+use Rattle.judge.specs.declared.Reader.{Reader}
+use Rattle.judge.proofs.Walks.{Met, starts, calls, ends, of-local, gone, known, framed, closes, Bytes, Buffer, bytes, bytes-typed, buffer-typed, reader-typed}
+use Rattle.judge.proofs.open as opens
+use Rattle.judge.proofs.open.Symbol as open-def
+use Rattle.judge.proofs.open.Symbol.{name as #judge·open}
+use Rattle.judge.proofs.open.Met as open-thm
 use Rattle.translation.specs.Translate.{translateOn}
 use Rattle.translation.specs.Handed.{Ends, handed}
 use Rattle.translation.specs.declared.Terms.{Terms}
@@ -58,7 +58,7 @@ use Rattle.translation.proofs.translating.translate_on.Code as code
 
 module _ {M : Type 1} (𝓤 : URA M) (H : Heap 𝓤) (A : Atoms 𝓤) (W : Given 𝓤 H A) (mem : Memory → SProp 𝓤) (run : Routine → Fun 𝓤)
     (C : Calls 𝓤 H) (Λ : Loops 𝓤 H) (fm : FmC 𝓤 H (W .laws) C)
-    (opened : Triple 𝓤 (C #table·open) (Met 𝓤 H A opens.ended (opens.clauses 𝓤 H A mem run)))
+    (opened : Triple 𝓤 (C #judge·open) (Met 𝓤 H A opens.ended (opens.clauses 𝓤 H A mem run)))
     (met : Triple 𝓤 (C #translation·translate-read) (Met 𝓤 H A read.ended (read.clauses 𝓤 H A mem run))) where
   module _ (κ κ₁ κ₂ : Lft) (q q₁ q₂ : Share) (p : Terms) (i t x : RefT (List ℕ)) where
     abbrev κs : Lfts 3
@@ -150,6 +150,6 @@ unfolding code.routine
 translate-on-spec 𝓤 H 𝓜 𝓖 𝓡 =
     closes 𝓤 H 𝓜 𝓖 𝓡 code.env on.ended (on.clauses 𝓤 H) #translation·translate-on code.function (code.unfolded 𝓤 H 𝓜 𝓡)
     (meets 𝓤 H (𝓖 .A) (givenOf 𝓤 H 𝓜 𝓖) (𝓜 .mem) (𝓡 .run) (tables 𝓤 H 𝓜 𝓡 code.env .C) (tables 𝓤 H 𝓜 𝓡 code.env .Λ) (framed 𝓤 H 𝓜 𝓖 𝓡 code.env)
-    (known 𝓤 H 𝓜 𝓖 𝓡 code.env opens.ended (opens.clauses 𝓤 H) #table·open open-def.routine code.calls-table·open (open-thm.met 𝓤 H 𝓜 𝓖 𝓡))
+    (known 𝓤 H 𝓜 𝓖 𝓡 code.env opens.ended (opens.clauses 𝓤 H) #judge·open open-def.routine code.calls-judge·open (open-thm.met 𝓤 H 𝓜 𝓖 𝓡))
     (known 𝓤 H 𝓜 𝓖 𝓡 code.env read.ended (read.clauses 𝓤 H) #translation·translate-read read-def.routine code.calls-translation·translating·translate-read
     (read-thm.met 𝓤 H 𝓜 𝓖 𝓡)))

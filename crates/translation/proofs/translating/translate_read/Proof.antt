@@ -35,11 +35,11 @@ use denote.Triple.Spec.{Meets}
 use denote.Triple.Statement.{Triple}
 use denote.Triple.Walked.{needs}
 use Rattle.table.specs.Numbers.{entrySigns, mostText}
-use Rattle.table.specs.Promises.{Reads}
-use Rattle.table.specs.declared.Reader.{Reader}
-use Rattle.table.proofs.Walks.{Met, starts, calls, ends, of-local, gone, known, framed, closes, Bytes, Buffer, bytes, bytes-typed, buffer-typed, sections-typed, verdict-typed, reader-typed, bytes-type, reader-types}
-use Rattle.table.proofs.Reader as R
-use Rattle.table.proofs.Reader.Laws as R′
+use Rattle.judge.specs.Promises.{Reads}
+use Rattle.judge.specs.declared.Reader.{Reader}
+use Rattle.judge.proofs.Walks.{Met, starts, calls, ends, of-local, gone, known, framed, closes, Bytes, Buffer, bytes, bytes-typed, buffer-typed, sections-typed, verdict-typed, reader-typed, bytes-type, reader-types}
+use Rattle.judge.proofs.Reader as R
+use Rattle.judge.proofs.Reader.Laws as R′
 use Rattle.table.proofs.Sections as S
 use Rattle.table.proofs.Sections.Laws as S′
 use Rattle.table.proofs.Verdict as E

@@ -1,0 +1,3 @@
+pub mod VerdictSteps
+pub mod Walks
+pub mod Promises
