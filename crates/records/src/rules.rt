@@ -1,6 +1,6 @@
-// Right records: each kind of record is judged byte by byte as specs/Records.antt has it, and the
-// first wrong byte of the first wrong record is found in image order. The alphabet's symbols are
-// gathered once, so that a character is looked up in one step.
+// Right records: each kind of record is judged byte by byte as specs/Records.antt of `table` has it,
+// and the first wrong byte of the first wrong record is found in image order. The alphabet's symbols
+// are gathered once, so that a character is looked up in one step.
 
 ghost use mathlib.Core.Path.{_≡_};
 ghost use Prim.Native.Nat.{_+_, _<_};
