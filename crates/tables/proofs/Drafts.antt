@@ -15,18 +15,18 @@ use borrow.Author.Tests.{leb-true, ltb-true, ltb-false, eqb-true}
 use Rattle.table.specs.Numbers.{leastClasses, mostClasses, mostVariables, mostLength, leastLetters, entrySigns, noCell, noContext, padding, blank, leastSymbol, mostSymbol, earliestYear, latestYear, mostLetters, mostEntries, mostContexts, mostColumns, entrySize, datedEntrySize}
 use Rattle.table.specs.Search.{within}
 use Rattle.table.proofs.Tests.{both}
-use Rattle.tables.specs.Numbers.{equals, hyphen, colon, fromWord, toWord, mostByte, hash, underscore, backslash}
-use Rattle.tables.specs.Words.{Read, got, wrong, after, afterGap, endsWord, endsLine, whole, isWord, isDigit, startsNumber, withDigit, digitsFrom, atLeast, number, byteNumber, markOr, isEscaped, escaped, symbol, symbolsFrom, row, stringBytes, string}
-use Rattle.tables.specs.Fields.{spelled, fieldsOf, sizeOf, sizesOf, numberBytes, classed, signsFrom, signs, year, years, tail, readField, readFields}
-use Rattle.tables.specs.Reading.{linesOf, rank, inOrder, hasRoom, start, withLine, imageBytes, Line, nothing, says, unlike, keywordIn, keywords, ended, lineOf, readLine, Reading, good, bad, readEnd, readLines, reading, entrySizeFor, decisionsFor, transitionsFor, contextsFor, entriesFor, lettersFor}
-use Rattle.tables.specs.inside.Steps.{Modest}
-use Rattle.tables.specs.declared.Draft.{Draft}
-use Rattle.tables.specs.declared.Expected.{Expected}
-use Rattle.tables.specs.declared.Expected.the-variants as expected
-use Rattle.tables.specs.declared.Field.{Field}
-use Rattle.tables.specs.declared.Field.the-variants.{Number, Symbol, Row, String, Classed, Shift, Tail}
-use Rattle.tables.specs.declared.Keyword.{Keyword}
-use Rattle.tables.specs.declared.Keyword.the-variants.{Dated, Classes, Variables, Letter, Entry, Context, Transition, Decision}
+use Rattle.form.specs.Numbers.{equals, hyphen, colon, fromWord, toWord, mostByte, hash, underscore, backslash}
+use Rattle.form.specs.Words.{Read, got, wrong, after, afterGap, endsWord, endsLine, whole, isWord, isDigit, startsNumber, withDigit, digitsFrom, atLeast, number, byteNumber, markOr, isEscaped, escaped, symbol, symbolsFrom, row, stringBytes, string}
+use Rattle.form.specs.Fields.{spelled, fieldsOf, sizeOf, sizesOf, numberBytes, classed, signsFrom, signs, year, years, tail, readField, readFields}
+use Rattle.form.specs.Reading.{linesOf, rank, inOrder, hasRoom, start, withLine, imageBytes, Line, nothing, says, unlike, keywordIn, keywords, ended, lineOf, readLine, Reading, good, bad, readEnd, readLines, reading, entrySizeFor, decisionsFor, transitionsFor, contextsFor, entriesFor, lettersFor}
+use Rattle.form.specs.inside.Steps.{Modest}
+use Rattle.form.specs.declared.Draft.{Draft}
+use Rattle.form.specs.declared.Expected.{Expected}
+use Rattle.form.specs.declared.Expected.the-variants as expected
+use Rattle.form.specs.declared.Field.{Field}
+use Rattle.form.specs.declared.Field.the-variants.{Number, Symbol, Row, String, Classed, Shift, Tail}
+use Rattle.form.specs.declared.Keyword.{Keyword}
+use Rattle.form.specs.declared.Keyword.the-variants.{Dated, Classes, Variables, Letter, Entry, Context, Transition, Decision}
 
 -- ---- What a read gives, where it gives something
 

@@ -12,13 +12,13 @@ use lib.Seq.{take-add, drop-drop, length-take-le, drop-append-seam, take-all, ge
 use borrow.Author.Tests.{eqb-true, eq-eqb, ne-eqb}
 use Rattle.table.specs.Numbers.{mostLength, noContext, noCell, entrySigns, earliestYear, latestYear, padding}
 use Rattle.table.specs.Sections.{byteAt, numberAt, bytesFrom}
-use Rattle.tables.specs.Numbers.{colon, equals, hyphen, fromWord, toWord, mostByte, mostYear}
-use Rattle.tables.specs.Words.{Read, got, after, afterGap, isGap, endsWord, whole, begins, isWord, isDigit, startsNumber, row, string, stringBytes}
-use Rattle.tables.specs.Fields.{sizeOf, sizesOf, numberBytes, classed, signsFrom, signs, year, years, tail, readField, readFields}
-use Rattle.tables.specs.Showing.{spaces, rightward, shownNumber, shownMarkOr, shownSymbols, leftward, signsBefore, shownNumbers, shownYear, shownYears, shownSigns, shownTail, shownField, shownFields}
+use Rattle.form.specs.Numbers.{colon, equals, hyphen, fromWord, toWord, mostByte, mostYear}
+use Rattle.form.specs.Words.{Read, got, after, afterGap, isGap, endsWord, whole, begins, isWord, isDigit, startsNumber, row, string, stringBytes}
+use Rattle.form.specs.Fields.{sizeOf, sizesOf, numberBytes, classed, signsFrom, signs, year, years, tail, readField, readFields}
+use Rattle.form.specs.Showing.{spaces, rightward, shownNumber, shownMarkOr, shownSymbols, leftward, signsBefore, shownNumbers, shownYear, shownYears, shownSigns, shownTail, shownField, shownFields}
 use Rattle.tables.specs.inside.Writing.{SymbolsAt, WritableString, WritableTail, WritableField, Writable}
-use Rattle.tables.specs.declared.Field.{Field}
-use Rattle.tables.specs.declared.Field.the-variants.{Number, Symbol, Row, String, Classed, Shift, Tail}
+use Rattle.form.specs.declared.Field.{Field}
+use Rattle.form.specs.declared.Field.the-variants.{Number, Symbol, Row, String, Classed, Shift, Tail}
 use Rattle.tables.proofs.WordsBack.{afterGap-spaces, rightward-back, rightward-ends, isWord-front, decimal-start, shown-number-front, shown-number-ends, shown-number-back, mark-back, mark-ends, symbols-no-end, symbols-back, bytes-cons, leftward-back, spaces-end}
 
 -- these bytes are read, and what is left is this rest, blanks at its front aside

@@ -17,12 +17,12 @@ use Rattle.table.specs.declared.Refusal.the-variants.{Frame, Room}
 use Rattle.table.specs.declared.Verdict.the-variants.{Refused as NotAccepted}
 use Rattle.table.proofs.Frame.{frame-right}
 use Rattle.table.proofs.Refusals.{VerdictTold, table-refused, verdict-told}
-use Rattle.tables.specs.Fields.{numberBytes}
-use Rattle.tables.specs.Reading.{Reading, good, bad, reading, entrySizeFor, decisionsFor, transitionsFor, contextsFor, entriesFor, lettersFor, trailerFor, imageOf}
-use Rattle.tables.specs.Calls.{refused, done, roomed, unlike, making}
-use Rattle.tables.specs.Promises.{Ends}
-use Rattle.tables.specs.declared.Draft.{Draft}
-use Rattle.tables.specs.declared.Drawn.the-variants.{Done, Refused}
+use Rattle.form.specs.Fields.{numberBytes}
+use Rattle.form.specs.Reading.{Reading, good, bad, reading, entrySizeFor, decisionsFor, transitionsFor, contextsFor, entriesFor, lettersFor, trailerFor, imageOf}
+use Rattle.form.specs.Calls.{refused, done, roomed, unlike, making}
+use Rattle.form.specs.Promises.{Ends}
+use Rattle.form.specs.declared.Draft.{Draft}
+use Rattle.form.specs.declared.Drawn.the-variants.{Done, Refused}
 use Rattle.tables.proofs.Drafts.{Comes, reading-good}
 
 -- ---- The trailer, read back

@@ -26,9 +26,9 @@ use Rattle.table.proofs.Forms.{tells-dated, dated-size, undated-size, form-mark
 use Rattle.table.proofs.Frame.{frame-right}
 use Rattle.table.proofs.Refusals.{accepted}
 use Rattle.table.proofs.Reading.{accepted-located, accepted-laid}
-use Rattle.tables.specs.Fields.{numberBytes}
-use Rattle.tables.specs.Reading.{entrySizeFor, decisionsFor, transitionsFor, contextsFor, entriesFor, lettersFor, trailerFor}
-use Rattle.tables.specs.declared.Draft.{Draft}
+use Rattle.form.specs.Fields.{numberBytes}
+use Rattle.form.specs.Reading.{entrySizeFor, decisionsFor, transitionsFor, contextsFor, entriesFor, lettersFor, trailerFor}
+use Rattle.form.specs.declared.Draft.{Draft}
 
 -- ---- The numbers of a slice of bytes
 

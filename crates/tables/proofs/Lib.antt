@@ -1,7 +1,4 @@
 pub mod Promises
-pub mod Words
-pub mod Fields
-pub mod Sizes
 pub mod OneLine
 pub mod Lines
 pub mod Drafts
@@ -10,13 +7,9 @@ pub mod Places
 pub mod Trailer
 pub mod Frame
 pub mod Makes
-pub mod Puts
-pub mod Showable
-pub mod Shown
 pub mod WordsBack
 pub mod FieldsBack
 pub mod LinesBack
 pub mod Joined
 pub mod Rights
 pub mod RoundTrip
-pub mod Example

@@ -11,8 +11,8 @@ use lib.Dec.{leb, eqb}
 use lib.ListN.{length, getD, take, drop, length-drop, drop-of-length-le}
 use lib.Seq.{drop-cons, drop-drop, take-all}
 use borrow.Author.Tests.{le-leb, lt-leb, eq-eqb, ne-eqb}
-use Rattle.tables.specs.Numbers.{lineFeed}
-use Rattle.tables.specs.Reading.{onFirst, linesOf}
+use Rattle.form.specs.Numbers.{lineFeed}
+use Rattle.form.specs.Reading.{onFirst, linesOf}
 use Rattle.tables.specs.inside.Lines.{firstLine, lineEnd}
 
 -- ---- Where a line ends

@@ -13,17 +13,17 @@ use Rattle.table.specs.Numbers.{blank, leastSymbol, mostSymbol, mostLength, noC
 use Rattle.table.specs.Refusals.{Between}
 use Rattle.table.specs.Sections.{numberAt}
 use Rattle.table.proofs.Lists.{all-append, all-replicate}
-use Rattle.tables.specs.Numbers.{lineFeed, space, underscore, backslash, zeroDigit, equals, hyphen, colon, fromWord, toWord}
-use Rattle.tables.specs.Words.{Read, isGap, afterGap, endsWord, endsLine, begins, isWord, isEscaped}
-use Rattle.tables.specs.Fields.{spelled, fieldsOf, sizeOf, sizesOf}
-use Rattle.tables.specs.Reading.{linesOf, onFirst, inOrder, hasRoom, says, keywordIn, ended, lineOf, readLine}
-use Rattle.tables.specs.Showing.{spaces, decimalIn, decimal, rightward, shownNumber, shownMarkOr, shownSymbol, shownSymbols, leftward, signsBefore, shownNumbers, shownYear, shownYears, shownSigns, shownTail, shownField, shownFields}
+use Rattle.form.specs.Numbers.{lineFeed, space, underscore, backslash, zeroDigit, equals, hyphen, colon, fromWord, toWord}
+use Rattle.form.specs.Words.{Read, isGap, afterGap, endsWord, endsLine, begins, isWord, isEscaped}
+use Rattle.form.specs.Fields.{spelled, fieldsOf, sizeOf, sizesOf}
+use Rattle.form.specs.Reading.{linesOf, onFirst, inOrder, hasRoom, says, keywordIn, ended, lineOf, readLine}
+use Rattle.form.specs.Showing.{spaces, decimalIn, decimal, rightward, shownNumber, shownMarkOr, shownSymbol, shownSymbols, leftward, signsBefore, shownNumbers, shownYear, shownYears, shownSigns, shownTail, shownField, shownFields}
 use Rattle.tables.specs.inside.Writing.{SymbolsAt, WritableField, Writable}
-use Rattle.tables.specs.declared.Draft.{Draft}
-use Rattle.tables.specs.declared.Field.{Field}
-use Rattle.tables.specs.declared.Field.the-variants.{Number, Symbol, Row, String, Classed, Shift, Tail}
-use Rattle.tables.specs.declared.Keyword.{Keyword}
-use Rattle.tables.specs.declared.Keyword.the-variants.{Dated, Classes, Variables, Letter, Entry, Context, Transition, Decision}
+use Rattle.form.specs.declared.Draft.{Draft}
+use Rattle.form.specs.declared.Field.{Field}
+use Rattle.form.specs.declared.Field.the-variants.{Number, Symbol, Row, String, Classed, Shift, Tail}
+use Rattle.form.specs.declared.Keyword.{Keyword}
+use Rattle.form.specs.declared.Keyword.the-variants.{Dated, Classes, Variables, Letter, Entry, Context, Transition, Decision}
 use Rattle.tables.proofs.FieldsBack.{Back, Apts, fields-end, fields-back}
 
 -- none of these is a line feed

@@ -12,15 +12,15 @@ use borrow.Author.Tests.{le-leb, lt-leb}
 use Rattle.table.specs.inside.Wrote.{Wrote}
 use Rattle.table.specs.declared.Refusal.the-variants.{Room}
 use Rattle.table.proofs.Wrote.{put-then}
-use Rattle.tables.specs.Reading.{Reading, good, bad, reading, lineAt, columnAt, trailerFor, imageOf}
-use Rattle.tables.specs.Calls.{Outcome, refused, done, roomed, unlike, making}
-use Rattle.tables.specs.Promises.{Ends}
+use Rattle.form.specs.Reading.{Reading, good, bad, reading, lineAt, columnAt, trailerFor, imageOf}
+use Rattle.form.specs.Calls.{Outcome, refused, done, roomed, unlike, making}
+use Rattle.form.specs.Promises.{Ends}
 use Rattle.tables.specs.inside.Lines.{Drafted}
 use Rattle.tables.specs.inside.Steps.{walkedTo, bodyOf}
-use Rattle.tables.specs.declared.Draft.{Draft}
-use Rattle.tables.specs.declared.Drawn.{Drawn}
-use Rattle.tables.specs.declared.Drawn.the-variants.{Done, Refused, Unlike}
-use Rattle.tables.specs.declared.Expected.{Expected}
+use Rattle.form.specs.declared.Draft.{Draft}
+use Rattle.form.specs.declared.Drawn.{Drawn}
+use Rattle.form.specs.declared.Drawn.the-variants.{Done, Refused, Unlike}
+use Rattle.form.specs.declared.Expected.{Expected}
 use Rattle.tables.specs.declared.Walked.the-variants.{To, Wrong}
 use Rattle.tables.proofs.Drafts.{Comes, reading-good}
 

@@ -8,12 +8,12 @@ use native.Mathlib.Omega.{arith}
 use lib.Dec.{eqb}
 use lib.ListN.{length, drop}
 use Rattle.table.proofs.Tests.{both}
-use Rattle.tables.specs.Words.{got, afterGap, endsWord, endsLine, begins, isWord}
-use Rattle.tables.specs.Fields.{spelled}
-use Rattle.tables.specs.Reading.{nothing, says, unlike, keywordIn, keywords, ended, lineOf, readLine}
-use Rattle.tables.specs.declared.Draft.{Draft}
-use Rattle.tables.specs.declared.Expected.the-variants as expected
-use Rattle.tables.specs.declared.Keyword.{Keyword}
+use Rattle.form.specs.Words.{got, afterGap, endsWord, endsLine, begins, isWord}
+use Rattle.form.specs.Fields.{spelled}
+use Rattle.form.specs.Reading.{nothing, says, unlike, keywordIn, keywords, ended, lineOf, readLine}
+use Rattle.form.specs.declared.Draft.{Draft}
+use Rattle.form.specs.declared.Expected.the-variants as expected
+use Rattle.form.specs.declared.Keyword.{Keyword}
 
 -- ---- The word: one that stands there is no longer than the rest of the line
 

@@ -10,8 +10,8 @@ use lib.ListN.{length, getD, take}
 use lib.Seq.{take-suc, take-all, take-length}
 use borrow.Author.Tests.{eq-eqb, ne-eqb}
 use Rattle.table.specs.Search.{count}
-use Rattle.tables.specs.Numbers.{lineFeed}
-use Rattle.tables.specs.Reading.{lineAt, sinceFeed}
+use Rattle.form.specs.Numbers.{lineFeed}
+use Rattle.form.specs.Reading.{lineAt, sinceFeed}
 
 count-append : (c : ℕ) (xs ys : List ℕ) → count c (xs ++ ys) ≡ count c xs + count c ys
 unfolding count

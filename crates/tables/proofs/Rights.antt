@@ -21,14 +21,14 @@ use Rattle.table.specs.declared.Verdict.the-variants.{Accepted}
 use Rattle.table.proofs.Lists.{all-take, all-drop}
 use Rattle.table.proofs.Forms.{entry-long}
 use Rattle.table.proofs.Reading.{part-long, part-at, accepted-laid, accepted-right}
-use Rattle.tables.specs.Numbers.{mostByte}
-use Rattle.tables.specs.Fields.{fieldsOf, sizesOf}
-use Rattle.tables.specs.Showing.{headOf}
+use Rattle.form.specs.Numbers.{mostByte}
+use Rattle.form.specs.Fields.{fieldsOf, sizesOf}
+use Rattle.form.specs.Showing.{headOf}
 use Rattle.tables.specs.inside.Writing.{Writable, WritableRow, WritableString, WritableTail}
-use Rattle.tables.specs.declared.Draft.{Draft}
-use Rattle.tables.specs.declared.Field.the-variants.{Row, String, Classed, Shift, Tail}
-use Rattle.tables.specs.declared.Keyword.{Keyword}
-use Rattle.tables.specs.declared.Keyword.the-variants.{Letter, Entry, Context, Transition, Decision}
+use Rattle.form.specs.declared.Draft.{Draft}
+use Rattle.form.specs.declared.Field.the-variants.{Row, String, Classed, Shift, Tail}
+use Rattle.form.specs.declared.Keyword.{Keyword}
+use Rattle.form.specs.declared.Keyword.the-variants.{Letter, Entry, Context, Transition, Decision}
 use Rattle.tables.proofs.Joined.{Bytes, byte-below, recordAt, marked}
 
 -- a record that a line can say

@@ -25,20 +25,20 @@ use Rattle.table.specs.declared.Verdict.{Verdict}
 use Rattle.table.specs.declared.Verdict.the-variants.{Accepted, Refused as NotAccepted}
 use Rattle.table.proofs.Tests.{fails-law, tells-lt, tells-within}
 use Rattle.table.proofs.Reading.{accepted-laid}
-use Rattle.tables.specs.Numbers.{lineFeed}
-use Rattle.tables.specs.Words.{afterGap, endsLine}
-use Rattle.tables.specs.Fields.{spelled, fieldsOf, sizesOf}
-use Rattle.tables.specs.Reading.{says, Reading, good, bad, start, inOrder, hasRoom, withLine, imageBytes, linesOf, readLine, readEnd, readLines, reading, whatIsMissing, imageOf}
-use Rattle.tables.specs.Showing.{shownFields, shownLine, headOf, shownHead, shownRecord, shownSection, shownIn, shown}
-use Rattle.tables.specs.Calls.{Outcome, done, refused, roomed, showing, making}
-use Rattle.tables.specs.Promises.{Ends}
+use Rattle.form.specs.Numbers.{lineFeed}
+use Rattle.form.specs.Words.{afterGap, endsLine}
+use Rattle.form.specs.Fields.{spelled, fieldsOf, sizesOf}
+use Rattle.form.specs.Reading.{says, Reading, good, bad, start, inOrder, hasRoom, withLine, imageBytes, linesOf, readLine, readEnd, readLines, reading, whatIsMissing, imageOf}
+use Rattle.form.specs.Showing.{shownFields, shownLine, headOf, shownHead, shownRecord, shownSection, shownIn, shown}
+use Rattle.form.specs.Calls.{Outcome, done, refused, roomed, showing, making}
+use Rattle.form.specs.Promises.{Ends}
 use Rattle.tables.specs.inside.Writing.{Writable}
-use Rattle.tables.specs.declared.Draft.{Draft}
-use Rattle.tables.specs.declared.Drawn.{Drawn}
-use Rattle.tables.specs.declared.Drawn.the-variants.{Done, Refused}
-use Rattle.tables.specs.declared.Expected.{Expected}
-use Rattle.tables.specs.declared.Keyword.{Keyword}
-use Rattle.tables.specs.declared.Keyword.the-variants.{Dated, Classes, Variables, Letter, Entry, Context, Transition, Decision}
+use Rattle.form.specs.declared.Draft.{Draft}
+use Rattle.form.specs.declared.Drawn.{Drawn}
+use Rattle.form.specs.declared.Drawn.the-variants.{Done, Refused}
+use Rattle.form.specs.declared.Expected.{Expected}
+use Rattle.form.specs.declared.Keyword.{Keyword}
+use Rattle.form.specs.declared.Keyword.the-variants.{Dated, Classes, Variables, Letter, Entry, Context, Transition, Decision}
 use Rattle.tables.proofs.Joined.{Bytes, draftFor, recordAt, joined, sectionBytes, image-back}
 use Rattle.tables.proofs.LinesBack.{Unbroken, lines-cons, line-no-feed, line-back}
 use Rattle.tables.proofs.Rights.{Written, letter-written, entry-written, context-written, transition-written, decision-written}

@@ -11,10 +11,10 @@ use lib.Seq.{sets}
 use Rattle.table.specs.Numbers.{entrySize, datedEntrySize, firstMark, secondMark, datedMark}
 use Rattle.table.specs.inside.Wrote.{Wrote}
 use Rattle.table.proofs.Wrote.{put-then}
-use Rattle.tables.specs.Fields.{numberBytes}
-use Rattle.tables.specs.Reading.{entrySizeFor, decisionsFor, transitionsFor, contextsFor, entriesFor, lettersFor, trailerFor}
-use Rattle.tables.specs.inside.Steps.{Modest}
-use Rattle.tables.specs.declared.Draft.{Draft}
+use Rattle.form.specs.Fields.{numberBytes}
+use Rattle.form.specs.Reading.{entrySizeFor, decisionsFor, transitionsFor, contextsFor, entriesFor, lettersFor, trailerFor}
+use Rattle.form.specs.inside.Steps.{Modest}
+use Rattle.form.specs.declared.Draft.{Draft}
 
 module _ (d : Draft) (m : Modest d) where
   pub decisions-few : decisionsFor d ≤ 1100

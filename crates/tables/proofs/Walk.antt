@@ -11,20 +11,21 @@ use lib.Seq.{length-take-le, take-all}
 use borrow.Author.Tests.{lt-ltb, le-ltb}
 use Rattle.table.specs.inside.Wrote.{Wrote}
 use Rattle.table.proofs.Wrote.{put-then, wrote-length}
-use Rattle.tables.specs.Fields.{fieldsOf, sizesOf}
-use Rattle.tables.specs.Reading.{rank, start, withLine, imageBytes, Line, nothing, says, unlike, readLine, good, bad, whatIsMissing, readEnd, readLines, reading}
+use Rattle.form.specs.Fields.{fieldsOf, sizesOf}
+use Rattle.form.specs.Reading.{rank, start, withLine, imageBytes, Line, nothing, says, unlike, readLine, good, bad, whatIsMissing, readEnd, readLines, reading}
 use Rattle.tables.specs.inside.Lines.{firstLine, lineEnd, lineBytes, taken, Drafted}
-use Rattle.tables.specs.inside.Puts.{Puts}
-use Rattle.tables.specs.inside.Steps.{Modest, walkedTo}
-use Rattle.tables.specs.declared.Draft.{Draft}
-use Rattle.tables.specs.declared.Expected.{Expected}
-use Rattle.tables.specs.declared.Keyword.{Keyword}
-use Rattle.tables.specs.declared.Keyword.the-variants.{Dated, Classes, Variables, Letter, Entry, Context, Transition, Decision}
+use Rattle.writing.specs.inside.Puts.{Puts}
+use Rattle.form.specs.inside.Steps.{Modest}
+use Rattle.tables.specs.inside.Steps.{walkedTo}
+use Rattle.form.specs.declared.Draft.{Draft}
+use Rattle.form.specs.declared.Expected.{Expected}
+use Rattle.form.specs.declared.Keyword.{Keyword}
+use Rattle.form.specs.declared.Keyword.the-variants.{Dated, Classes, Variables, Letter, Entry, Context, Transition, Decision}
 use Rattle.tables.specs.declared.Taken.the-variants.{On, Wrong}
 use Rattle.tables.specs.declared.Walked.the-variants as walked
 use Rattle.tables.proofs.Drafts.{says-modest, says-size}
 use Rattle.tables.proofs.Lines.{first-within, linesLeft, left-from, left-none, left-line}
-use Rattle.tables.proofs.Sizes.{record-small}
+use Rattle.form.proofs.Sizes.{record-small}
 
 -- ---- What one line gives, from the record that it was read into
 

@@ -13,9 +13,9 @@ use Rattle.table.specs.Numbers.{blank, leastSymbol, mostSymbol}
 use Rattle.table.specs.Refusals.{Between}
 use Rattle.table.specs.Sections.{bytesFrom}
 use Rattle.table.proofs.Tests.{clash, both}
-use Rattle.tables.specs.Numbers.{space, tab, carriageReturn, hash, underscore, backslash, zeroDigit, nineDigit, mostByte}
-use Rattle.tables.specs.Words.{got, isGap, afterGap, endsWord, whole, begins, isWord, isDigit, startsNumber, withDigit, digitsFrom, atLeast, number, byteNumber, markOr, isEscaped, escaped, symbol, symbolsFrom}
-use Rattle.tables.specs.Showing.{spaces, decimalIn, decimal, rightward, shownNumber, shownMarkOr, shownSymbol, shownSymbols, leftward}
+use Rattle.form.specs.Numbers.{space, tab, carriageReturn, hash, underscore, backslash, zeroDigit, nineDigit, mostByte}
+use Rattle.form.specs.Words.{got, isGap, afterGap, endsWord, whole, begins, isWord, isDigit, startsNumber, withDigit, digitsFrom, atLeast, number, byteNumber, markOr, isEscaped, escaped, symbol, symbolsFrom}
+use Rattle.form.specs.Showing.{spaces, decimalIn, decimal, rightward, shownNumber, shownMarkOr, shownSymbol, shownSymbols, leftward}
 use Rattle.tables.specs.inside.Writing.{SymbolsAt}
 
 -- ---- Gaps

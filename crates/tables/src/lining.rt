@@ -2,23 +2,25 @@
 // kind, its fields, and what it makes of the draft.
 
 ghost use mathlib.Core.Bool.{true, cond};
-ghost use Rattle.tables.specs.Words.{isWord};
+ghost use Rattle.form.specs.Words.{isWord};
 ghost use mathlib.Core.Path.{_≡_};
 ghost use Prim.Native.Nat.{ℕ, _≤_};
 ghost use lib.ListN.{length, drop};
-ghost use Rattle.tables.specs.Fields.{spelled, fieldsOf, sizesOf};
-ghost use Rattle.tables.specs.Reading.{rank as rankOf, inOrder, hasRoom, withLine, one as oneWhere, start as startOf, keywordIn, keywords, lineOf, readLine};
-ghost use Rattle.tables.specs.inside.Steps.{knownKeyword, toldLine, ToldWithin, Modest};
-use crate::Draft;
-use crate::Expected;
-use crate::Keyword;
+ghost use Rattle.form.specs.Fields.{spelled, fieldsOf, sizesOf};
+ghost use Rattle.form.specs.Reading.{rank as rankOf, inOrder, hasRoom, withLine, one as oneWhere, start as startOf, keywordIn, keywords, lineOf, readLine};
+ghost use Rattle.tables.specs.inside.Steps.{knownKeyword, toldLine, ToldWithin};
+ghost use Rattle.form.specs.inside.Steps.{Modest};
 use crate::Known;
-use crate::Step;
 use crate::Told;
-use crate::fielding::read_fields;
-use crate::wording::ends_line;
-use crate::wording::gap_end;
-use crate::wording::is_word;
+use fields::Step;
+use fields::fill;
+use form::Draft;
+use form::Expected;
+use form::Keyword;
+use form::ends_line;
+use form::gap_end;
+use form::is_word;
+use form::record_size;
 
 // The rank of a line: none stands after one of a higher rank.
 pub(crate) fn rank(keyword: Keyword) -> u8
@@ -171,23 +173,6 @@ pub(crate) fn word_length(keyword: Keyword) -> usize
     }
 }
 
-// The bytes of a record.
-pub(crate) fn record_size(draft: Draft, keyword: Keyword) -> usize
-    requires { ⌜ Modest draft ⌝ }
-    ensures { λ r. ⌜ (r ≡ sizesOf (fieldsOf draft keyword)) × (r ≤ 64) ⌝ }
-{
-    match keyword {
-        Keyword::Dated => 0,
-        Keyword::Classes => 1,
-        Keyword::Variables => 1,
-        Keyword::Letter => 3,
-        Keyword::Entry => { if draft.dated { 22 } else { 18 } }
-        Keyword::Context => 4,
-        Keyword::Transition => draft.classes as usize,
-        Keyword::Decision => (draft.classes as usize) + (draft.variables as usize),
-    }
-}
-
 // The line whose first word stands there.
 fn line_of(draft: Draft, keyword: Keyword, line: &[u8], at: usize, rec: &mut [u8; 64]) -> Told
     requires { ⌜ Modest draft × (at ≤ length (now line)) × (isWord (spelled keyword) (drop at (now line)) ≡ true) ⌝ }
@@ -199,7 +184,7 @@ fn line_of(draft: Draft, keyword: Keyword, line: &[u8], at: usize, rec: &mut [u8
     if !has_room(draft, keyword) {
         return Told::Unlike(Expected::Fewer, at);
     }
-    match read_fields(draft, keyword, line, at + word_length(keyword), rec) {
+    match fill(draft, keyword, line, at + word_length(keyword), rec) {
         Step::Off(e, i) => Told::Unlike(e, i),
         Step::On(i) => {
             let end = gap_end(line, i);

@@ -5,16 +5,17 @@ ghost use mathlib.Core.Path.{_≡_};
 ghost use Prim.Native.Nat.{ℕ, _+_, _≤_, _<_};
 ghost use lib.ListN.{length};
 ghost use Rattle.table.specs.inside.Wrote.{Wrote};
-ghost use Rattle.tables.specs.Fields.{numberBytes};
-ghost use Rattle.tables.specs.Reading.{good, reading, imageOf, lineAt, columnAt, entrySizeFor, decisionsFor, transitionsFor, contextsFor, entriesFor, lettersFor, trailerFor};
-ghost use Rattle.tables.specs.Calls.{roomed, making};
-ghost use Rattle.tables.specs.Promises.{Ends};
+ghost use Rattle.form.specs.Fields.{numberBytes};
+ghost use Rattle.form.specs.Reading.{good, reading, imageOf, lineAt, columnAt, entrySizeFor, decisionsFor, transitionsFor, contextsFor, entriesFor, lettersFor, trailerFor};
+ghost use Rattle.form.specs.Calls.{roomed, making};
+ghost use Rattle.form.specs.Promises.{Ends};
 ghost use Rattle.tables.specs.inside.Lines.{Drafted};
-ghost use Rattle.tables.specs.inside.Steps.{Modest, bodyOf};
-use crate::Draft;
-use crate::Drawn;
+ghost use Rattle.form.specs.inside.Steps.{Modest};
+ghost use Rattle.tables.specs.inside.Steps.{bodyOf};
 use crate::Walked;
 use crate::walking::walk;
+use form::Draft;
+use form::Drawn;
 use table::Refusal;
 
 // The line of a place of the text, counted from 1.

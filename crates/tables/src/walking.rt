@@ -5,13 +5,12 @@ ghost use mathlib.Core.Path.{_≡_};
 ghost use Prim.Native.Nat.{ℕ, _+_, _≤_, _<_};
 ghost use lib.ListN.{length, take, drop};
 ghost use Rattle.table.specs.inside.Wrote.{Wrote};
-ghost use Rattle.tables.specs.Reading.{whatIsMissing, readLine, reading};
+ghost use Rattle.form.specs.Reading.{whatIsMissing, readLine, reading};
 ghost use Rattle.tables.specs.inside.Lines.{lineEnd, lineBytes, taken, Drafted};
-ghost use Rattle.tables.specs.inside.Puts.{Puts};
-ghost use Rattle.tables.specs.inside.Steps.{Modest, lacking, walkedTo, bodyOf};
-ghost use Rattle.tables.specs.declared.Draft.{Draft as DraftOf};
-use crate::Draft;
-use crate::Expected;
+ghost use Rattle.writing.specs.inside.Puts.{Puts};
+ghost use Rattle.form.specs.inside.Steps.{Modest};
+ghost use Rattle.tables.specs.inside.Steps.{lacking, walkedTo, bodyOf};
+ghost use Rattle.form.specs.declared.Draft.{Draft as DraftOf};
 use crate::Lacks;
 use crate::Taken;
 use crate::Told;
@@ -19,8 +18,10 @@ use crate::Walked;
 use crate::lining::first_draft;
 use crate::lining::rank;
 use crate::lining::read_line;
-use crate::lining::record_size;
 use crate::lining::with_line;
+use form::Draft;
+use form::Expected;
+use form::record_size;
 
 // The place of the line feed that ends the line, or of the text's end.
 fn line_end(text: &[u8], at: usize) -> usize

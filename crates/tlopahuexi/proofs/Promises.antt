@@ -5,7 +5,7 @@ use mathlib.Core.Path.{_≡_, sym, ap, _∙_}
 use Rattle.judge.proofs.Promises.{check-determined}
 use Rattle.stamp.proofs.Promises.{stamp-determined}
 use Rattle.dates.specs.Moving.{Outcome}
-use Rattle.tables.specs.Calls.{Outcome as OutcomeOfDrawn}
+use Rattle.form.specs.Calls.{Outcome as OutcomeOfDrawn}
 use Rattle.ink.proofs.Promises.{mark-determined}
 use Rattle.layout.proofs.Promises.{emboss-determined}
 use Rattle.embosser.specs.declared.Kind.{Kind}

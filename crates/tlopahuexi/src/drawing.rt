@@ -1,6 +1,6 @@
 // Readable tables for programs in other languages.
 
-ghost use Rattle.tables.specs.Calls.{showing, making};
+ghost use Rattle.form.specs.Calls.{showing, making};
 ghost use Rattle.tlopahuexi.specs.Promises.{Redrawn};
 use tables::make;
 use tables::show;

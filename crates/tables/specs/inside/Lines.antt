@@ -5,11 +5,11 @@ use mathlib.Core.List.{List, [], _∷_}
 use mathlib.Core.Path.{_≡_}
 use lib.Dec.{eqb}
 use lib.ListN.{length, getD, drop}
-use Rattle.tables.specs.Numbers.{lineFeed}
-use Rattle.tables.specs.Reading.{Line, nothing, says, unlike, withLine, imageBytes, reading}
+use Rattle.form.specs.Numbers.{lineFeed}
+use Rattle.form.specs.Reading.{Line, nothing, says, unlike, withLine, imageBytes, reading}
 use Rattle.tables.specs.inside.Steps.{walkedTo}
 use Rattle.tables.specs.declared.Walked.the-variants.{To}
-use Rattle.tables.specs.declared.Draft.{Draft}
+use Rattle.form.specs.declared.Draft.{Draft}
 use Rattle.tables.specs.declared.Taken.{Taken}
 use Rattle.tables.specs.declared.Taken.the-variants.{On, Wrong}
 

@@ -6,10 +6,10 @@ use mathlib.Core.Path.{_≡_}
 use lib.ListN.{getD}
 use Rattle.table.specs.Numbers.{leastSymbol, mostSymbol, leastLength, mostLength, padding, noCell, entrySigns}
 use Rattle.table.specs.Refusals.{Between}
-use Rattle.tables.specs.Numbers.{mostByte}
-use Rattle.tables.specs.Fields.{sizeOf}
-use Rattle.tables.specs.declared.Field.{Field}
-use Rattle.tables.specs.declared.Field.the-variants.{Number, Symbol, Row, String, Classed, Shift, Tail}
+use Rattle.form.specs.Numbers.{mostByte}
+use Rattle.form.specs.Fields.{sizeOf}
+use Rattle.form.specs.declared.Field.{Field}
+use Rattle.form.specs.declared.Field.the-variants.{Number, Symbol, Row, String, Classed, Shift, Tail}
 
 -- the `n` bytes from `at` on are symbols
 abbrev pub SymbolsAt : List ℕ → ℕ → ℕ → Type 0

@@ -6,11 +6,11 @@ use mathlib.Core.List.{List, [], _∷_}
 use mathlib.Core.Option.{none, some}
 use mathlib.Core.Path.{_≡_, refl, sym, _∙_}
 use lib.ListN.{drop}
-use Rattle.tables.specs.Words.{isWord}
-use Rattle.tables.specs.Fields.{spelled}
-use Rattle.tables.specs.Reading.{keywordIn, keywords}
-use Rattle.tables.specs.declared.Keyword.{Keyword}
-use Rattle.tables.specs.declared.Keyword.the-variants.{Dated, Classes, Variables, Letter, Entry, Context, Transition, Decision}
+use Rattle.form.specs.Words.{isWord}
+use Rattle.form.specs.Fields.{spelled}
+use Rattle.form.specs.Reading.{keywordIn, keywords}
+use Rattle.form.specs.declared.Keyword.{Keyword}
+use Rattle.form.specs.declared.Keyword.the-variants.{Dated, Classes, Variables, Letter, Entry, Context, Transition, Decision}
 use Rattle.tables.proofs.lining.keyword_at.Statement.{statement}
 use Rattle.tables.proofs.lining.keyword_at.Tie as tie
 

@@ -8,9 +8,11 @@ use native.Mathlib.Omega.{arith}
 use lib.ListN.{length, take, drop, length-drop}
 use lib.Seq.{drop-drop}
 use borrow.Author.Tests.{not-true, not-false}
-use Rattle.tables.specs.Fields.{spelled, fieldsOf, sizesOf, readFields}
-use Rattle.tables.specs.Reading.{inOrder, hasRoom, ended, lineOf}
-use Rattle.tables.specs.inside.Steps.{stepRead}
+use Rattle.form.specs.Fields.{spelled, fieldsOf, sizesOf, readFields}
+use Rattle.form.specs.Reading.{inOrder, hasRoom, ended, lineOf}
+use Rattle.fields.specs.inside.Steps.{stepRead}
+use Rattle.fields.proofs.Promises.{modest-read}
+use Rattle.form.proofs.Sizes.{record-small}
 use Rattle.tables.proofs.OneLine.{word-fits, ended-says, ended-unlike}
 use Rattle.tables.proofs.lining.line_of.Statement.{statement}
 use Rattle.tables.proofs.lining.line_of.Tie as tie
@@ -26,10 +28,10 @@ inside c =
     omega arith
 
 -- the line may stand there, and is what its fields make of it
-fields-read : (c : tie.After-read-fields)
+fields-read : (c : tie.After-fill)
     → (let a = c .before .before .before .before .before .before .before .before .args in
     lineOf (a .draft) (a .keyword) (drop (a .at) (a .line .now))
-    ≡ ended (a .keyword) (stepRead (a .line .now) (take (sizesOf (fieldsOf (a .draft) (a .keyword))) (c .read-fields .last .1 .1 .1 .1 .0)) (c .read-fields .result)))
+    ≡ ended (a .keyword) (stepRead (a .line .now) (take (sizesOf (fieldsOf (a .draft) (a .keyword))) (c .fill .last .1 .1 .1 .1 .0)) (c .fill .result)))
 unfolding lineOf
 fields-read c =
     let a = c .before .before .before .before .before .before .before .before .args in
@@ -40,7 +42,7 @@ fields-read c =
     let there : drop (length (spelled (a .keyword))) (drop (a .at) (a .line .now)) ≡ drop (a .at + c .before .before .word-length .result) (a .line .now) =
     drop-drop (length (spelled (a .keyword))) (a .at) (a .line .now) ∙ ap (λ (n : ℕ). drop (a .at + n) (a .line .now)) (sym (c .before .before .word-length .ensures)) in
     rw (order, room, lineOf)
-    (ap (λ (r : List ℕ). ended (a .keyword) (readFields (fieldsOf (a .draft) (a .keyword)) [] r)) there ∙ ap (ended (a .keyword)) (sym (c .read-fields .ensures .0)))
+    (ap (λ (r : List ℕ). ended (a .keyword) (readFields (fieldsOf (a .draft) (a .keyword)) [] r)) there ∙ ap (ended (a .keyword)) (sym (c .fill .ensures .reads ∙ modest-read (a .draft) (a .keyword) _ (c .before .before .before .before .before .before .before .before .pre .0))))
 
 in-order-requires : tie.Need-in-order-requires
 in-order-requires c κs = search needs
@@ -64,11 +66,11 @@ returns-2 c =
 word-length-requires : tie.Need-word-length-requires
 word-length-requires c κs = search needs
 
-add-read-fields : tie.Need-add-read-fields
-add-read-fields c = let h = inside c in search needs
+add-fill : tie.Need-add-fill
+add-fill c = let h = inside c in search needs
 
-read-fields-requires : tie.Need-read-fields-requires
-read-fields-requires c κs = (inside (c .before), c .before .before .before .before .before .before .before .pre .0)
+fill-requires : tie.Need-fill-requires
+fill-requires c κs = search needs
 
 enum-known-e : tie.Need-enum-known-e
 enum-known-e c = search needs
@@ -77,7 +79,7 @@ enum-known-i : tie.Need-enum-known-i
 enum-known-i c = search needs
 
 gap-end-requires : tie.Need-gap-end-requires
-gap-end-requires c κs = rw (c .before .i .given .1) at (c .before .before .before .read-fields .ensures .1)
+gap-end-requires c κs = search needs
 
 ends-line-requires : tie.Need-ends-line-requires
 ends-line-requires c κs = search needs
@@ -89,12 +91,12 @@ returns-3 : tie.Need-returns-3
 returns-3 c =
     let read = rw (c .before .before .before .before .before .i .given .1) at (fields-read (c .before .before .before .before .before .before .before)) in
     let ends = sym (c .before .before .ends-line .ensures) ∙ c .before .if3 .taken in
-    (rw (c .record-size .ensures .0) (sym (read ∙ ended-says _ _ _ _ (c .before .before .before .gap-end .ensures .0) ends)), c .record-size .ensures .1)
+    (rw (c .record-size .ensures) (sym (read ∙ ended-says _ _ _ _ (c .before .before .before .gap-end .ensures .0) ends)), rw (c .record-size .ensures) (record-small _ _ (c .before .before .before .before .before .before .before .before .before .before .before .before .before .before .before .pre .0)))
 
 returns-4 : tie.Need-returns-4
 unfolding ended
 returns-4 c =
-    (sym (rw (c .before .e .given .1) at (fields-read (c .before .before .before))), rw (c .before .e .given .1) at (c .before .before .before .read-fields .ensures .1))
+    (sym (rw (c .before .e .given .1) at (fields-read (c .before .before .before))), rw (c .before .e .given .1) at (c .before .before .before .fill .ensures .within))
 
 returns-5 : tie.Need-returns-5
 returns-5 c =
@@ -111,8 +113,8 @@ line-of-spec =
     has-room-requires
     returns-2
     word-length-requires
-    add-read-fields
-    read-fields-requires
+    add-fill
+    fill-requires
     enum-known-e
     enum-known-i
     gap-end-requires

@@ -3,7 +3,7 @@ use borrow.Author.Needs.{needs}
 use mathlib.Core.Option.{some}
 use mathlib.Core.Path.{_≡_, sym, _∙_, ap}
 use lib.ListN.{drop}
-use Rattle.tables.specs.Reading.{keywordIn, keywords}
+use Rattle.form.specs.Reading.{keywordIn, keywords}
 use Rattle.tables.specs.inside.Steps.{knownKeyword}
 use Rattle.tables.proofs.OneLine.{keyword-stands, reads-nothing, reads-word, reads-none}
 use Rattle.tables.proofs.lining.read_line.Statement.{statement}

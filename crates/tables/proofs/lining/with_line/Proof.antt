@@ -2,8 +2,8 @@
 use borrow.Author.Needs.{needs}
 use native.Mathlib.Omega.{arith}
 use lib.Dec.{eqb}
-use Rattle.tables.specs.Reading.{withLine}
-use Rattle.tables.proofs.Sizes.{one-small}
+use Rattle.form.specs.Reading.{withLine}
+use Rattle.form.proofs.Sizes.{one-small}
 use Rattle.tables.proofs.lining.with_line.Statement.{statement}
 use Rattle.tables.proofs.lining.with_line.Tie as tie
 

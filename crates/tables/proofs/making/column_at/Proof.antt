@@ -6,7 +6,7 @@ use mathlib.Core.Path.{_≡_, refl, sym, _∙_, ap}
 use native.Mathlib.Numerals.{add-one}
 use native.Mathlib.Omega.{arith}
 use lib.ListN.{length, take}
-use Rattle.tables.specs.Reading.{columnAt, sinceFeed}
+use Rattle.form.specs.Reading.{columnAt, sinceFeed}
 use Rattle.tables.proofs.Places.{whole-take, since-feed, since-other}
 use Rattle.tables.proofs.making.column_at.Statement.{statement}
 use Rattle.tables.proofs.making.column_at.Tie as tie

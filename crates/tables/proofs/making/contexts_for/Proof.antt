@@ -2,7 +2,7 @@
 use Prim.Native.Nat.{ℕ, _+_, _*_}
 use mathlib.Core.Path.{ap}
 use native.Mathlib.Omega.{arith}
-use Rattle.tables.specs.Reading.{contextsFor}
+use Rattle.form.specs.Reading.{contextsFor}
 use borrow.Author.Needs.{needs}
 use Rattle.tables.proofs.making.contexts_for.Statement.{statement}
 use Rattle.tables.proofs.making.contexts_for.Tie as tie

@@ -1,7 +1,7 @@
 -- `tables::making::decisions_for` meets its contract: its product fits, as the limits of a modest draft bound it.
 use mathlib.Core.Path.{refl}
 use native.Mathlib.Omega.{arith}
-use Rattle.tables.specs.Reading.{decisionsFor}
+use Rattle.form.specs.Reading.{decisionsFor}
 use Rattle.tables.proofs.Trailer.{decisions-few}
 use borrow.Author.Needs.{needs}
 use Rattle.tables.proofs.making.decisions_for.Statement.{statement}

@@ -4,7 +4,7 @@ use mathlib.Core.Bool.{Bool, cond}
 use mathlib.Core.Logic.{⊎-elim}
 use mathlib.Core.Path.{_≡_, _∙_, ap, sym}
 use native.Mathlib.Omega.{arith}
-use Rattle.tables.specs.Reading.{entrySizeFor, contextsFor, entriesFor}
+use Rattle.form.specs.Reading.{entrySizeFor, contextsFor, entriesFor}
 use Rattle.tables.proofs.Trailer.{records-few}
 use borrow.Author.Needs.{needs}
 use Rattle.tables.proofs.making.entries_for.Statement.{statement}

@@ -2,7 +2,7 @@
 use Prim.Native.Nat.{ℕ, _+_, _*_}
 use mathlib.Core.Path.{ap}
 use native.Mathlib.Omega.{arith}
-use Rattle.tables.specs.Reading.{lettersFor}
+use Rattle.form.specs.Reading.{lettersFor}
 use borrow.Author.Needs.{needs}
 use Rattle.tables.proofs.making.letters_for.Statement.{statement}
 use Rattle.tables.proofs.making.letters_for.Tie as tie

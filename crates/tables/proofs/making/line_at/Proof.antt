@@ -7,8 +7,8 @@ use mathlib.Core.Path.{_≡_, sym, _∙_, ap}
 use native.Mathlib.Omega.{arith}
 use lib.ListN.{length, take}
 use Rattle.table.specs.Search.{count}
-use Rattle.tables.specs.Numbers.{lineFeed}
-use Rattle.tables.specs.Reading.{lineAt}
+use Rattle.form.specs.Numbers.{lineFeed}
+use Rattle.form.specs.Reading.{lineAt}
 use Rattle.tables.proofs.Places.{whole-take, line-first, line-feed, line-other}
 use Rattle.tables.proofs.making.line_at.Statement.{statement}
 use Rattle.tables.proofs.making.line_at.Tie as tie

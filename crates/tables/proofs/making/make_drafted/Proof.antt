@@ -4,7 +4,7 @@ use mathlib.Core.List.{List}
 use mathlib.Core.Path.{_≡_}
 use native.Mathlib.Omega.{arith}
 use lib.ListN.{length}
-use Rattle.tables.specs.Reading.{reading, imageOf}
+use Rattle.form.specs.Reading.{reading, imageOf}
 use Rattle.tables.specs.inside.Steps.{bodyOf}
 use Rattle.tables.proofs.Frame.{image-long}
 use Rattle.tables.proofs.Makes.{drafted-comes, ends-short, ends-done, made-put}

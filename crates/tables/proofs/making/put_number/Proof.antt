@@ -4,7 +4,7 @@ use mathlib.Core.Path.{ap}
 use native.Mathlib.Numerals.{add-one}
 use native.Mathlib.Omega.{arith}
 use lib.ListN.{set, length-set}
-use Rattle.tables.specs.Fields.{numberBytes}
+use Rattle.form.specs.Fields.{numberBytes}
 use borrow.Author.Needs.{needs}
 use Rattle.tables.proofs.making.put_number.Statement.{statement}
 use Rattle.tables.proofs.making.put_number.Tie as tie

@@ -2,7 +2,7 @@
 use Prim.Native.Nat.{ℕ, _+_, _*_}
 use mathlib.Core.Path.{ap}
 use native.Mathlib.Omega.{arith}
-use Rattle.tables.specs.Reading.{transitionsFor}
+use Rattle.form.specs.Reading.{transitionsFor}
 use Rattle.tables.proofs.Trailer.{turns-few}
 use borrow.Author.Needs.{needs}
 use Rattle.tables.proofs.making.transitions_for.Statement.{statement}

@@ -5,7 +5,8 @@ use mathlib.Core.Path.{_≡_, sym, _∙_}
 use native.Mathlib.Omega.{arith}
 use lib.ListN.{length, take}
 use lib.Seq.{length-take-le}
-use Rattle.tables.specs.Reading.{says, readLine}
+use Rattle.form.specs.Reading.{says, readLine}
+use Rattle.form.proofs.Sizes.{record-small}
 use Rattle.tables.proofs.Drafts.{says-size}
 use Rattle.tables.proofs.Walk.{take-size, took-nothing, took-wrong, took-record, took-head}
 use Rattle.tables.proofs.walking.take_line.Statement.{statement}
@@ -19,7 +20,7 @@ said c = sym (rw (c .keyword .given .1) at (c .before .before .read-line .ensure
 
 -- `rec` has the bytes of the record
 room : (c : tie.After-record-size) → c .record-size .result ≤ length (c .before .before .before .before .before .before .before .read-line .last .1 .1 .0)
-room c = take-size (c .before .before .before .before .before .keyword .given .0 .1 .0) _ (c .before .before .before .before .before .before .before .read-line .last .1 .1 .0) (says-size _ _ _ _ (said (c .before .before .before .before .before)) ∙ sym (c .record-size .ensures .0)) .1
+room c = take-size (c .before .before .before .before .before .keyword .given .0 .1 .0) _ (c .before .before .before .before .before .before .before .read-line .last .1 .1 .0) (says-size _ _ _ _ (said (c .before .before .before .before .before)) ∙ sym (c .record-size .ensures)) .1
 
 read-line-requires : tie.Need-read-line-requires
 read-line-requires c κs = search needs
@@ -51,7 +52,7 @@ slice-aggregate-put-record c = sym (length-take-le _ (c .before .before .before 
 put-record-requires : tie.Need-put-record-requires
 put-record-requires c κs =
     let long = length-take-le _ (c .before .before .before .before .before .before .before .before .before .read-line .last .1 .1 .0) (room (c .before .before)) in
-    let small = c .before .before .record-size .ensures .1 in
+    let small : c .before .before .record-size .result ≤ 64 = rw (c .before .before .record-size .ensures) (record-small _ _ (c .before .before .before .before .before .before .before .before .before .before .before .before .before .pre .0)) in
     (c .before .before .before .before .before .before .before .before .before .before .before .before .before .pre .1, omega arith)
 
 same-length : tie.Need-same-length
@@ -59,7 +60,7 @@ same-length c = search needs
 
 returns : tie.Need-returns
 returns c =
-    took-record _ _ _ _ _ (c .before .before .before .before .before .before .before .before .before .before .keyword .given .0 .1 .0) (c .before .before .before .before .before .before .before .before .before .before .before .before .read-line .last .1 .1 .0) (said (c .before .before .before .before .before .before .before .before .before .before)) (c .before .before .before .before .before .before .before .before .with-line .ensures) (rw (c .before .before .before .before .before .before .before .rank .ensures) at (c .before .before .before .before .before .before .if1 .taken)) (c .before .before .before .before .before .record-size .ensures .0) (c .before .before .put-record .ensures)
+    took-record _ _ _ _ _ (c .before .before .before .before .before .before .before .before .before .before .keyword .given .0 .1 .0) (c .before .before .before .before .before .before .before .before .before .before .before .before .read-line .last .1 .1 .0) (said (c .before .before .before .before .before .before .before .before .before .before)) (c .before .before .before .before .before .before .before .before .with-line .ensures) (rw (c .before .before .before .before .before .before .before .rank .ensures) at (c .before .before .before .before .before .before .if1 .taken)) (c .before .before .before .before .before .record-size .ensures) (c .before .before .put-record .ensures)
 
 enum-known-e : tie.Need-enum-known-e
 enum-known-e c = search needs

@@ -6,7 +6,7 @@ use mathlib.Core.Path.{_≡_, refl, sym, _∙_, ap}
 use native.Mathlib.Omega.{arith}
 use lib.ListN.{length, take, drop, length-drop}
 use lib.Seq.{length-take-le}
-use Rattle.tables.specs.Reading.{readLine}
+use Rattle.form.specs.Reading.{readLine}
 use Rattle.tables.specs.inside.Steps.{lacking, walkedTo}
 use Rattle.tables.proofs.Walk.{line-part, wrong-within, Walking, walk-starts, walk-small, walk-on, walk-wrong, walk-good, walk-lacks, never-drafted}
 use Rattle.tables.proofs.walking.walk.Statement.{statement}

@@ -1,0 +1,4 @@
+pub mod Promises
+pub mod Words
+pub mod Sizes
+pub mod Example
