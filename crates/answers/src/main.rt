@@ -240,14 +240,14 @@ fn emboss_into(setting: Setting, image: &[u8], text: &[u8], sheet: Sheet, out: &
 // Moves a table to the dated form, into a buffer.
 fn date_into(image: &[u8], out: &mut [u8]) -> bool {
     prepare(out);
-    let answer = dates::date(image, out);
+    let answer = movers::date(image, out);
     write_moved(answer) & io::write_all(STDOUT_FILENO, out)
 }
 
 // Moves a table back to the old form, into a buffer.
 fn undate_into(image: &[u8], out: &mut [u8]) -> bool {
     prepare(out);
-    let answer = dates::undate(image, out);
+    let answer = movers::undate(image, out);
     write_moved(answer) & io::write_all(STDOUT_FILENO, out)
 }
 
@@ -261,14 +261,14 @@ fn stamp_beside(image: &[u8], out: &mut [u8]) -> bool {
 // Writes the file of a layout into a buffer.
 fn write_into(layout: &[u8], sheet: Sheet, out: &mut [u8]) -> bool {
     prepare(out);
-    let answer = embosser::write_file(layout, sheet, out);
+    let answer = files::write_file(layout, sheet, out);
     write_filed(answer) & io::write_all(STDOUT_FILENO, out)
 }
 
 // Reads a file into a buffer, as the layout it was written from.
 fn read_into(file: &[u8], sheet: Sheet, out: &mut [u8]) -> bool {
     prepare(out);
-    let answer = embosser::read_file(file, sheet, out);
+    let answer = files::read_file(file, sheet, out);
     write_filed(answer) & io::write_all(STDOUT_FILENO, out)
 }
 
@@ -299,7 +299,7 @@ fn write_inked(answer: Inked) -> bool {
 // Marks the text, into a buffer.
 fn mark_into(text: &[u8], out: &mut [u8]) -> bool {
     prepare(out);
-    let answer = ink::mark(text, out);
+    let answer = marks::mark(text, out);
     write_inked(answer) & io::write_all(STDOUT_FILENO, out)
 }
 
@@ -307,7 +307,7 @@ fn mark_into(text: &[u8], out: &mut [u8]) -> bool {
 fn source_beside(text: &[u8], n: usize, out: &mut [u8]) -> bool {
     prepare(out);
     io::write_all(STDOUT_FILENO, &[0])
-        & write_eight(ink::source(text, n))
+        & write_eight(marks::source(text, n))
         & write_eight(0)
         & write_eight(0)
         & write_eight(0)

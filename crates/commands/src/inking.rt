@@ -64,7 +64,7 @@ pub(crate) fn read_ink(i: usize, text: &mut [u8], marked: &mut [u8]) -> Marked {
     if 262144 < reading.count {
         return ended(ink_long());
     }
-    let inked = ink::mark(front(text, reading.count), marked);
+    let inked = marks::mark(front(text, reading.count), marked);
     if inked.number() != 0 {
         return ended(not_marked(inked.place(), front(text, reading.count)));
     }

@@ -88,7 +88,7 @@ fn deliver(command: Command, asked: Asked, layout: &[u8]) -> i32 {
         }
         _ => {
             let mut file = layout_room();
-            let filed = embosser::write_file(layout, sheet_of(asked), &mut file);
+            let filed = files::write_file(layout, sheet_of(asked), &mut file);
             if filed.number() != 0 {
                 return refused_file(filed.number(), filed.place(), layout, sheet_of(asked));
             }
@@ -117,7 +117,7 @@ fn emboss_text(
         return refused_table(number, answer.place(), image, table);
     }
     if (0 < ink.len()) & ((number == 6) | (number == 7)) {
-        let place = ink::source(ink, answer.place());
+        let place = marks::source(ink, answer.place());
         return refused_text(number, place, ink, asked.following, sheet_of(asked));
     }
     refused_text(
@@ -169,7 +169,7 @@ fn emboss_by(command: Command, asked: Asked, image: &[u8], table: &[u8]) -> i32 
 
 fn read_file(asked: Asked, file: &[u8]) -> i32 {
     let mut out = file_room();
-    let filed = embosser::read_file(file, sheet_of(asked), &mut out);
+    let filed = files::read_file(file, sheet_of(asked), &mut out);
     if filed.number() != 0 {
         return refused_file(filed.number(), filed.place(), file, sheet_of(asked));
     }
@@ -235,7 +235,7 @@ fn not_moved(number: u8, place: usize, image: &[u8], text: &[u8], form: &[u8]) -
 
 fn date_table(asked: Asked, image: &[u8], text: &[u8]) -> i32 {
     let mut out = table_room();
-    let moved = dates::date(image, &mut out);
+    let moved = movers::date(image, &mut out);
     if moved.number() != 0 {
         return not_moved(moved.number(), moved.place(), image, text, b"dated");
     }
@@ -244,7 +244,7 @@ fn date_table(asked: Asked, image: &[u8], text: &[u8]) -> i32 {
 
 fn undate_table(asked: Asked, image: &[u8], text: &[u8]) -> i32 {
     let mut out = table_room();
-    let moved = dates::undate(image, &mut out);
+    let moved = movers::undate(image, &mut out);
     if moved.number() != 0 {
         return not_moved(moved.number(), moved.place(), image, text, b"old");
     }

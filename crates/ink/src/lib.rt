@@ -1,29 +1,22 @@
 // Inkprint as people have it, UTF-8, to the marked text that the tables want: letters in capitals, a
 // sign before those that were capitals and before accented ones, typographic signs by the
-// conventions, a code for each blank line. Any text and any room get their answer. What each type and
-// call means is said in specs/, and for an editor in docs/ENGLISH.md.
+// conventions, a code for each blank line. What each type and call means is said in specs/, and for
+// an editor in docs/ENGLISH.md; here are the types that the definitions and the calls share. The
+// calls themselves are in marks.
 
 mod answering;
-mod decoding;
-mod looking;
-mod marking;
-mod sorting;
-mod stepping;
-
-pub use marking::mark;
-pub use marking::source;
 
 // A character of the text: its code, and how many bytes it has.
-struct Character {
-    code: u32,
-    size: usize,
+pub struct Character {
+    pub code: u32,
+    pub size: usize,
 }
 
 // What a character is to the marks: a letter, which is a capital or isn't, with an accent or without;
 // a sign, itself or as the convention has it; a sign of the convention's own, with what stands after
 // the code sign; a gap, nothing, a line's end, a page's end, a long dash, three dots, a left single
 // quote, a right one; or none that has a mark.
-enum Glyph {
+pub enum Glyph {
     Letter(u8, bool, bool),
     Plain(u8),
     Literal(u8),
@@ -39,36 +32,36 @@ enum Glyph {
 }
 
 // The bytes that a character becomes, at most four.
-struct Signs {
-    count: usize,
-    a: u8,
-    b: u8,
-    c: u8,
-    d: u8,
+pub struct Signs {
+    pub count: usize,
+    pub a: u8,
+    pub b: u8,
+    pub c: u8,
+    pub d: u8,
 }
 
 // Where the marking stands: in the line, in the word, and whether a single quote is open.
-struct State {
-    line: u8,
-    word: u8,
-    single: bool,
+pub struct State {
+    pub line: u8,
+    pub word: u8,
+    pub single: bool,
 }
 
 // A character's mark, and the state after it.
-struct Step {
-    mark: Signs,
-    next: State,
+pub struct Step {
+    pub mark: Signs,
+    pub next: State,
 }
 
 // What the whole text comes to: the bytes of its marked text, or the place of the first character
 // that has no mark.
-enum Walked {
+pub enum Walked {
     To(usize),
     Wrong(usize),
 }
 
 // Whether each character has a mark, or the place of the first that has none.
-enum Judged {
+pub enum Judged {
     Fine,
     Wrong(usize),
 }

@@ -1,7 +1,7 @@
 // Inkprint for programs in other languages.
 
-ghost use Rattle.tlopahuexi.specs.Promises.{Inkprinted};
-use ink::mark;
+ghost use Rattle.calls.specs.Promises.{Inkprinted};
+use marks::mark;
 
 // Marks inkprint, and stores the answer's three values: number, place, bytes written. A refused call
 // changes no byte of `out`, and a done one none beyond the bytes written.

@@ -1,0 +1,12 @@
+-- `marks::sorting::is_gap` meets its contract: the body is the definition's test.
+use mathlib.Core.Path.{refl}
+use Rattle.ink.specs.Glyphs.{isGap}
+use Rattle.marks.proofs.sorting.is_gap.Statement.{statement}
+use Rattle.marks.proofs.sorting.is_gap.Tie as tie
+
+returns : tie.Need-returns
+unfolding isGap
+returns c = refl
+
+pub is-gap-spec : {M : Type 1} → statement M
+is-gap-spec = tie.close (tie.spec returns)

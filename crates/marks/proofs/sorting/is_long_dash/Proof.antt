@@ -1,0 +1,12 @@
+-- `marks::sorting::is_long_dash` meets its contract: the body is the definition's test.
+use mathlib.Core.Path.{refl}
+use Rattle.ink.specs.Glyphs.{isLongDash}
+use Rattle.marks.proofs.sorting.is_long_dash.Statement.{statement}
+use Rattle.marks.proofs.sorting.is_long_dash.Tie as tie
+
+returns : tie.Need-returns
+unfolding isLongDash
+returns c = refl
+
+pub is-long-dash-spec : {M : Type 1} → statement M
+is-long-dash-spec = tie.close (tie.spec returns)

@@ -1,0 +1,12 @@
+-- `marks::sorting::is_nothing` meets its contract: the body is the definition's test.
+use mathlib.Core.Path.{refl}
+use Rattle.ink.specs.Glyphs.{isNothing}
+use Rattle.marks.proofs.sorting.is_nothing.Statement.{statement}
+use Rattle.marks.proofs.sorting.is_nothing.Tie as tie
+
+returns : tie.Need-returns
+unfolding isNothing
+returns c = refl
+
+pub is-nothing-spec : {M : Type 1} → statement M
+is-nothing-spec = tie.close (tie.spec returns)
