@@ -38,7 +38,7 @@ ghost use Prim.Native.Nat.{_≤_};
 ghost use Rattle.io.specs.Counts.{Counts};
 use dates::Moved;
 use embosser::Filed;
-use ink::Inked;
+use inkprint::Inked;
 use layout::Answer;
 use libc::STDIN_FILENO;
 use libc::STDOUT_FILENO;
@@ -240,14 +240,14 @@ fn emboss_into(setting: Setting, image: &[u8], text: &[u8], sheet: Sheet, out: &
 // Moves a table to the dated form, into a buffer.
 fn date_into(image: &[u8], out: &mut [u8]) -> bool {
     prepare(out);
-    let answer = dates::date(image, out);
+    let answer = movers::date(image, out);
     write_moved(answer) & io::write_all(STDOUT_FILENO, out)
 }
 
 // Moves a table back to the old form, into a buffer.
 fn undate_into(image: &[u8], out: &mut [u8]) -> bool {
     prepare(out);
-    let answer = dates::undate(image, out);
+    let answer = movers::undate(image, out);
     write_moved(answer) & io::write_all(STDOUT_FILENO, out)
 }
 
@@ -261,14 +261,14 @@ fn stamp_beside(image: &[u8], out: &mut [u8]) -> bool {
 // Writes the file of a layout into a buffer.
 fn write_into(layout: &[u8], sheet: Sheet, out: &mut [u8]) -> bool {
     prepare(out);
-    let answer = embosser::write_file(layout, sheet, out);
+    let answer = files::write_file(layout, sheet, out);
     write_filed(answer) & io::write_all(STDOUT_FILENO, out)
 }
 
 // Reads a file into a buffer, as the layout it was written from.
 fn read_into(file: &[u8], sheet: Sheet, out: &mut [u8]) -> bool {
     prepare(out);
-    let answer = embosser::read_file(file, sheet, out);
+    let answer = files::read_file(file, sheet, out);
     write_filed(answer) & io::write_all(STDOUT_FILENO, out)
 }
 

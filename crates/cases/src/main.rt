@@ -115,7 +115,7 @@ fn print_six(bytes: &[u8; 6]) {
 // A file written from a layout, with six bytes lent.
 fn written(layout: &[u8], sheet: Sheet) {
     let mut out = [170u8; 6];
-    let answer = embosser::write_file(layout, sheet, &mut out);
+    let answer = files::write_file(layout, sheet, &mut out);
     print_filed(answer);
     print_six(&out);
 }
@@ -123,20 +123,20 @@ fn written(layout: &[u8], sheet: Sheet) {
 // A layout read from a file, with six bytes lent.
 fn read(file: &[u8], sheet: Sheet) {
     let mut out = [170u8; 6];
-    let answer = embosser::read_file(file, sheet, &mut out);
+    let answer = files::read_file(file, sheet, &mut out);
     print_filed(answer);
     print_six(&out);
 }
 
 // A layout written and a file read into what is lent, and whether it is as lent.
 fn tell_written(layout: &[u8], sheet: Sheet, out: &mut [u8]) {
-    let answer = embosser::write_file(layout, sheet, out);
+    let answer = files::write_file(layout, sheet, out);
     print_filed(answer);
     print_kept(out);
 }
 
 fn tell_read(file: &[u8], sheet: Sheet, out: &mut [u8]) {
-    let answer = embosser::read_file(file, sheet, out);
+    let answer = files::read_file(file, sheet, out);
     print_filed(answer);
     print_kept(out);
 }
@@ -238,7 +238,7 @@ fn in_years(dated: &[u8]) {
 // stamp; with COM from 2016 to 2015 (11, at the first-year byte), which has no stamp.
 fn years(image: &[u8]) {
     let mut dated = [0u8; 246];
-    dates::date(image, &mut dated);
+    movers::date(image, &mut dated);
     dated[75] = 140;
     dated[76] = 7;
     dated[77] = 223;

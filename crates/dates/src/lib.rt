@@ -1,13 +1,8 @@
-// Movers between the two forms of a table: `date` gives every entry its years, from 0 to 65,535,
-// which is always; `undate` takes such years away again. What each type and call means is said in
-// specs/.
+// The two forms of a table, and what moving it from one to the other means: definitions in specs/,
+// their laws, and the answer of a mover. The movers themselves are in movers.
 
 mod answering;
-mod moving;
-mod putting;
 
-pub use moving::date;
-pub use moving::undate;
 use table::Refusal;
 
 // What a mover answers.

@@ -1,15 +1,10 @@
-// Embosser files: pages as braille ASCII, written from the output of `emboss` and read back. Each
-// cell becomes one character by the chart, a line ends in line feed, a page in form feed. What is
-// lent is judged byte by byte, and any bytes, sizes and room get their answer. What each type and
-// call means is said in specs/.
+// Embosser files: pages as braille ASCII. Each cell becomes one character by the chart, a line ends
+// in line feed, a page in form feed. What good files are and what writing and reading one means is
+// said in specs/; here are the types that the definitions and the calls share. The calls themselves
+// are in files.
 
 mod answering;
-mod charting;
-mod filing;
-mod judging;
 
-pub use filing::read_file;
-pub use filing::write_file;
 use table::Refusal;
 
 // The bytes that pages are written in: the output of `emboss`, or an embosser file.
@@ -20,20 +15,20 @@ pub enum Kind {
 
 // Where the judging stands: the cells of the line, whether the last of them is blank, and the lines
 // that have ended on the page.
-struct Spot {
-    column: usize,
-    blank: bool,
-    line: usize,
+pub struct Spot {
+    pub column: usize,
+    pub blank: bool,
+    pub line: usize,
 }
 
 // What a byte makes of a spot: the next one, or no good file or layout could go on so.
-enum Step {
+pub enum Step {
     On(Spot),
     Wrong,
 }
 
 // What the judging finds: a wrong file or layout, and its place.
-enum Found {
+pub enum Found {
     At(usize),
     Nothing,
 }

@@ -4,8 +4,8 @@
 ghost use mathlib.Core.Path.{_≡_};
 ghost use Prim.Native.Nat.{ℕ, _+_, _≤_, _<_};
 ghost use lib.ListN.{length, getD, drop};
-ghost use Rattle.ink.specs.Characters.{goesOn, ofTwo, ofThree, ofFour, nextOf};
-use crate::Character;
+ghost use Rattle.inkprint.specs.Characters.{goesOn, ofTwo, ofThree, ofFour, nextOf};
+use inkprint::Character;
 
 // The byte at a place, and 0 past the end.
 fn byte_at(text: &[u8], at: usize) -> u8

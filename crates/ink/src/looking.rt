@@ -3,14 +3,14 @@
 ghost use mathlib.Core.Path.{_≡_};
 ghost use Prim.Native.Nat.{ℕ, _≤_};
 ghost use lib.ListN.{length, drop};
-ghost use Rattle.ink.specs.Characters.{charactersOf};
-ghost use Rattle.ink.specs.Marks.{startsLetter, startsCapital, capitalNext, capitalsOn, allCapitals, isBlank};
-use crate::Glyph;
+ghost use Rattle.inkprint.specs.Characters.{charactersOf};
+ghost use Rattle.inkprint.specs.Marks.{startsLetter, startsCapital, capitalNext, capitalsOn, allCapitals, isBlank};
 use crate::decoding::next;
 use crate::sorting::glyph;
 use crate::sorting::is_apostrophe;
 use crate::sorting::is_capital;
 use crate::sorting::is_letter;
+use inkprint::Glyph;
 
 // Whether a letter comes next.
 pub(crate) fn starts_letter(text: &[u8], at: usize) -> bool

@@ -6,18 +6,18 @@ ghost use mathlib.Core.Path.{_≡_};
 ghost use Prim.Native.Nat.{ℕ, _+_, _*_, _≤_, _<_};
 ghost use lib.ListN.{length};
 ghost use Rattle.table.specs.inside.Wrote.{Wrote};
-ghost use Rattle.ink.specs.Marks.{bytesOf, start as startOf, marked, marking};
-ghost use Rattle.ink.specs.Promises.{Inks, Sources};
-ghost use Rattle.ink.specs.inside.Steps.{walkedTo, judgedAs, Small, Puts};
-use crate::Inked;
-use crate::Judged;
-use crate::Signs;
-use crate::State;
-use crate::Walked;
+ghost use Rattle.inkprint.specs.Marks.{bytesOf, start as startOf, marked, marking};
+ghost use Rattle.inkprint.specs.Promises.{Inks, Sources};
+ghost use Rattle.inkprint.specs.inside.Steps.{walkedTo, judgedAs, Small, Puts};
 use crate::decoding::next;
 use crate::sorting::glyph;
 use crate::sorting::is_marked;
 use crate::stepping::step_of;
+use inkprint::Inked;
+use inkprint::Judged;
+use inkprint::Signs;
+use inkprint::State;
+use inkprint::Walked;
 
 // The state before any character.
 fn start() -> State

@@ -1,8 +1,8 @@
 // What each character is to the marks, by its code.
 
 ghost use mathlib.Core.Path.{_≡_};
-ghost use Rattle.ink.specs.Glyphs.{isOwnSign, literalOf, latinGlyph, isGap, isNothing, isDash, isLongDash, typographic as typographicOf, asciiSign, otherGlyph, glyphOf, isMarked, isLetter, isCapital, isApostrophe};
-use crate::Glyph;
+ghost use Rattle.inkprint.specs.Glyphs.{isOwnSign, literalOf, latinGlyph, isGap, isNothing, isDash, isLongDash, typographic as typographicOf, asciiSign, otherGlyph, glyphOf, isMarked, isLetter, isCapital, isApostrophe};
+use inkprint::Glyph;
 
 // The letters of U+00C0 to U+017F without their accents, small ones small, and 0 for what is no
 // accented letter.

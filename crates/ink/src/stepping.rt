@@ -3,16 +3,16 @@
 ghost use mathlib.Core.Path.{_≡_};
 ghost use Prim.Native.Nat.{ℕ, _≤_};
 ghost use lib.ListN.{length, drop};
-ghost use Rattle.ink.specs.Characters.{charactersOf};
-ghost use Rattle.ink.specs.Marks.{none as noMark, one as oneByte, two as twoBytes, three as threeBytes, four as fourBytes, state as stateOf, step as stepTo, wordOf, capitalSigns, letterMark, letterStep, signStep, closeStep, gapStep, feedStep, stepOf};
-use crate::Glyph;
-use crate::Signs;
-use crate::State;
-use crate::Step;
+ghost use Rattle.inkprint.specs.Characters.{charactersOf};
+ghost use Rattle.inkprint.specs.Marks.{none as noMark, one as oneByte, two as twoBytes, three as threeBytes, four as fourBytes, state as stateOf, step as stepTo, wordOf, capitalSigns, letterMark, letterStep, signStep, closeStep, gapStep, feedStep, stepOf};
 use crate::looking::all_capitals;
 use crate::looking::is_blank;
 use crate::looking::starts_capital;
 use crate::looking::starts_letter;
+use inkprint::Glyph;
+use inkprint::Signs;
+use inkprint::State;
+use inkprint::Step;
 
 fn one(a: u8) -> Signs
     ensures { λ r. ⌜ r ≡ oneByte a ⌝ }

@@ -1,6 +1,6 @@
 // The check of a table image for programs in other languages.
 
-ghost use Rattle.tlopahuexi.specs.Promises.{Judged};
+ghost use Rattle.calls.specs.Promises.{Judged};
 use judge::check;
 use table::Verdict;
 

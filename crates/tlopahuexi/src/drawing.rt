@@ -1,7 +1,7 @@
 // Readable tables for programs in other languages.
 
 ghost use Rattle.form.specs.Calls.{showing, making};
-ghost use Rattle.tlopahuexi.specs.Promises.{Redrawn};
+ghost use Rattle.calls.specs.Promises.{Redrawn};
 use tables::make;
 use tables::show;
 

@@ -1,9 +1,9 @@
 // Embosser files for programs in other languages.
 
 ghost use Rattle.embosser.specs.declared.Kind.the-variants.{Layout, File};
-ghost use Rattle.tlopahuexi.specs.Promises.{Converted};
-use embosser::read_file;
-use embosser::write_file;
+ghost use Rattle.calls.specs.Promises.{Converted};
+use files::read_file;
+use files::write_file;
 use pages::Sheet;
 
 // Writes the embosser file of a layout, which is judged first, and stores the answer's three

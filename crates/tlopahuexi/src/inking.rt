@@ -1,6 +1,6 @@
 // Inkprint for programs in other languages.
 
-ghost use Rattle.tlopahuexi.specs.Promises.{Inkprinted};
+ghost use Rattle.calls.specs.Promises.{Inkprinted};
 use ink::mark;
 
 // Marks inkprint, and stores the answer's three values: number, place, bytes written. A refused call

@@ -3,7 +3,7 @@
 // its address, never null, and its length; bytes that are lent as `out` or `answer` are lent as
 // nothing else in the same call.
 
-ghost use Rattle.tlopahuexi.specs.Promises.{Pressed};
+ghost use Rattle.calls.specs.Promises.{Pressed};
 
 mod checking;
 mod drawing;

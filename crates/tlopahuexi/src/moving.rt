@@ -1,9 +1,9 @@
 // The movers between the two forms of a table for programs in other languages.
 
 ghost use Rattle.dates.specs.Moving.{dating, undating};
-ghost use Rattle.tlopahuexi.specs.Promises.{Recast};
-use dates::date;
-use dates::undate;
+ghost use Rattle.calls.specs.Promises.{Recast};
+use movers::date;
+use movers::undate;
 
 // Writes a table without years in the form with years, each entry in force always, and stores the
 // answer's three values: number, place, bytes written. A refused call changes no byte of `out`, and

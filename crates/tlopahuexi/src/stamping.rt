@@ -1,6 +1,6 @@
 // The stamp of a table for programs in other languages.
 
-ghost use Rattle.tlopahuexi.specs.Promises.{Marked};
+ghost use Rattle.calls.specs.Promises.{Marked};
 use stamp::stamp;
 
 // Stamps a table image, of either form, and stores the answer's four values: number, place, and the

@@ -1,20 +1,9 @@
 -- `tlopahuexi::tlopahuexi_emboss` meets its contract: the answer and the output are those that `emboss` promises, and each stored number is what the answer's
 -- own method promises.
 use borrow.Author.Needs.{needs}
-use Prim.Native.Nat.{ℕ}
-use mathlib.Core.List.{[], _∷_}
-use mathlib.Core.Path.{_≡_, refl}
-use Rattle.layout.specs.Emboss.{number, place, written, pieces, lines, pages}
-use Rattle.layout.specs.Promises.{Tells}
-use Rattle.layout.specs.declared.Answer.{Answer}
-use Rattle.tlopahuexi.specs.Promises.{sixValues}
+use Rattle.calls.proofs.Told.{six-told}
 use Rattle.tlopahuexi.proofs.tlopahuexi_emboss.Statement.{statement}
 use Rattle.tlopahuexi.proofs.tlopahuexi_emboss.Tie as tie
-
-six-told : {a : Answer} {n p w k l g : ℕ} → Tells number a n → Tells place a p → Tells written a w → Tells pieces a k → Tells lines a l → Tells pages a g
-    → n ∷ p ∷ w ∷ k ∷ l ∷ g ∷ [] ≡ sixValues a
-unfolding sixValues
-six-told n p w k l g = rw (n .is) (rw (p .is) (rw (w .is) (rw (k .is) (rw (l .is) (rw (g .is) refl)))))
 
 emboss-requires : tie.Need-emboss-requires
 emboss-requires c κs = search needs

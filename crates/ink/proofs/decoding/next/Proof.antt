@@ -1,7 +1,7 @@
 -- `ink::decoding::next` meets its contract: below 128 a byte is a character of its own, and otherwise the tests of two bytes and more say which begins there.
 use borrow.Author.Needs.{needs}
 use mathlib.Core.Path.{sym, _∙_}
-use Rattle.ink.proofs.Characters.{next-meets, next-one, next-more}
+use Rattle.inkprint.proofs.Characters.{next-meets, next-one, next-more}
 use Rattle.ink.proofs.decoding.next.Statement.{statement}
 use Rattle.ink.proofs.decoding.next.Tie as tie
 

@@ -3,8 +3,8 @@ use borrow.Author.Needs.{needs}
 use mathlib.Core.Bool.{true, false}
 use mathlib.Core.Path.{_≡_, sym, _∙_}
 use borrow.Author.Tests.{not-true, not-false}
-use Rattle.ink.specs.Characters.{fourBytes}
-use Rattle.ink.proofs.Characters.{areFour, four-low, four-is, four-out, four-not}
+use Rattle.inkprint.specs.Characters.{fourBytes}
+use Rattle.inkprint.proofs.Characters.{areFour, four-low, four-is, four-out, four-not}
 use Rattle.ink.proofs.decoding.of_four.Statement.{statement}
 use Rattle.ink.proofs.decoding.of_four.Tie as tie
 

@@ -3,8 +3,8 @@ use borrow.Author.Needs.{needs}
 use mathlib.Core.Bool.{true, false}
 use mathlib.Core.Path.{_≡_, sym, _∙_}
 use borrow.Author.Tests.{not-true, not-false}
-use Rattle.ink.specs.Characters.{threeBytes}
-use Rattle.ink.proofs.Characters.{areThree, three-low, three-is, three-out, three-not}
+use Rattle.inkprint.specs.Characters.{threeBytes}
+use Rattle.inkprint.proofs.Characters.{areThree, three-low, three-is, three-out, three-not}
 use Rattle.ink.proofs.decoding.of_three.Statement.{statement}
 use Rattle.ink.proofs.decoding.of_three.Tie as tie
 

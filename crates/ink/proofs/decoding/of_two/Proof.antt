@@ -3,8 +3,8 @@ use borrow.Author.Needs.{needs}
 use mathlib.Core.Bool.{true, false}
 use mathlib.Core.Path.{_≡_, sym, _∙_}
 use borrow.Author.Tests.{not-true, not-false}
-use Rattle.ink.specs.Characters.{twoBytes}
-use Rattle.ink.proofs.Characters.{areTwo, two-low, two-is, two-not}
+use Rattle.inkprint.specs.Characters.{twoBytes}
+use Rattle.inkprint.proofs.Characters.{areTwo, two-low, two-is, two-not}
 use Rattle.ink.proofs.decoding.of_two.Statement.{statement}
 use Rattle.ink.proofs.decoding.of_two.Tie as tie
 

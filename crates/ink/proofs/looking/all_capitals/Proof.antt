@@ -2,9 +2,9 @@
 use borrow.Author.Needs.{needs}
 use mathlib.Core.Path.{sym, _∙_}
 use lib.ListN.{drop}
-use Rattle.ink.specs.Characters.{charactersOf}
-use Rattle.ink.specs.Marks.{capitalNext, capitalsOn, allCapitals}
-use Rattle.ink.proofs.ComesNext.{and-taken, and-left}
+use Rattle.inkprint.specs.Characters.{charactersOf}
+use Rattle.inkprint.specs.Marks.{capitalNext, capitalsOn, allCapitals}
+use Rattle.inkprint.proofs.ComesNext.{and-taken, and-left}
 use Rattle.ink.proofs.looking.all_capitals.Statement.{statement}
 use Rattle.ink.proofs.looking.all_capitals.Tie as tie
 

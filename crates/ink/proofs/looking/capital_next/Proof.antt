@@ -1,7 +1,7 @@
 -- `ink::looking::capital_next` meets its contract: at an apostrophe the answer is that of the place after it, and otherwise the test of the character there.
 use borrow.Author.Needs.{needs}
 use mathlib.Core.Path.{sym, _∙_}
-use Rattle.ink.proofs.ComesNext.{next-over, next-later, next-now}
+use Rattle.inkprint.proofs.ComesNext.{next-over, next-later, next-now}
 use Rattle.ink.proofs.looking.capital_next.Statement.{statement}
 use Rattle.ink.proofs.looking.capital_next.Tie as tie
 

@@ -6,10 +6,10 @@ use mathlib.Core.Logic.{⊎-elim}
 use mathlib.Core.Path.{_≡_, refl, sym, _∙_}
 use borrow.Author.Tests.{not-true, not-false}
 use lib.ListN.{length, drop}
-use Rattle.ink.specs.Characters.{charactersOf}
-use Rattle.ink.specs.Glyphs.{isApostrophe}
-use Rattle.ink.specs.Marks.{startsCapital, capitalsOn}
-use Rattle.ink.proofs.ComesNext.{and-taken, and-left, capitals-over, capitals-small, capitals-more, capitals-end, capitals-past}
+use Rattle.inkprint.specs.Characters.{charactersOf}
+use Rattle.inkprint.specs.Glyphs.{isApostrophe}
+use Rattle.inkprint.specs.Marks.{startsCapital, capitalsOn}
+use Rattle.inkprint.proofs.ComesNext.{and-taken, and-left, capitals-over, capitals-small, capitals-more, capitals-end, capitals-past}
 use Rattle.ink.proofs.looking.capitals_on.Statement.{statement}
 use Rattle.ink.proofs.looking.capitals_on.Tie as tie
 

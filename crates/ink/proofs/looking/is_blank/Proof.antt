@@ -4,9 +4,9 @@ use Prim.Native.Nat.{_-_}
 use mathlib.Core.Logic.{⊎-elim}
 use mathlib.Core.Path.{_≡_, refl, sym, _∙_}
 use lib.ListN.{length, drop}
-use Rattle.ink.specs.Characters.{charactersOf}
-use Rattle.ink.specs.Marks.{isBlank}
-use Rattle.ink.proofs.ComesNext.{blank-over, blank-gap, blank-nothing, blank-feed, blank-not}
+use Rattle.inkprint.specs.Characters.{charactersOf}
+use Rattle.inkprint.specs.Marks.{isBlank}
+use Rattle.inkprint.proofs.ComesNext.{blank-over, blank-gap, blank-nothing, blank-feed, blank-not}
 use Rattle.ink.proofs.looking.is_blank.Statement.{statement}
 use Rattle.ink.proofs.looking.is_blank.Tie as tie
 

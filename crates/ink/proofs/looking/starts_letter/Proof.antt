@@ -1,7 +1,7 @@
 -- `ink::looking::starts_letter` meets its contract: at a place of the text it is the test of the character there, and past the end there is none.
 use borrow.Author.Needs.{needs}
 use mathlib.Core.Path.{sym, _∙_}
-use Rattle.ink.proofs.ComesNext.{letter-over, letter-here}
+use Rattle.inkprint.proofs.ComesNext.{letter-over, letter-here}
 use Rattle.ink.proofs.looking.starts_letter.Statement.{statement}
 use Rattle.ink.proofs.looking.starts_letter.Tie as tie
 

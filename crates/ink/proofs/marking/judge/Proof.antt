@@ -7,8 +7,8 @@ use native.Mathlib.Omega.{arith}
 use lib.ListN.{length}
 use borrow.Author.Tests.{leb-true, not-true, not-false}
 use Rattle.table.proofs.Tests.{both}
-use Rattle.ink.specs.inside.Steps.{judgedAs}
-use Rattle.ink.proofs.Walk.{Judges, judge-starts, judge-on, judge-ascii, judge-stops, judge-ends}
+use Rattle.inkprint.specs.inside.Steps.{judgedAs}
+use Rattle.inkprint.proofs.Walk.{Judges, judge-starts, judge-on, judge-ascii, judge-stops, judge-ends}
 use Rattle.ink.proofs.marking.judge.Statement.{statement}
 use Rattle.ink.proofs.marking.judge.Tie as tie
 

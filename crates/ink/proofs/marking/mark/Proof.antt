@@ -1,6 +1,6 @@
 -- `ink::marking::mark` meets its contract: each way is a case of the call.
 use borrow.Author.Needs.{needs}
-use Rattle.ink.proofs.Calls.{inks-long}
+use Rattle.inkprint.proofs.Calls.{inks-long}
 use Rattle.ink.proofs.marking.mark.Statement.{statement}
 use Rattle.ink.proofs.marking.mark.Tie as tie
 

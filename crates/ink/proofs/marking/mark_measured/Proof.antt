@@ -1,8 +1,8 @@
 -- `ink::marking::mark_measured` meets its contract: each answer is a case of the call.
 use borrow.Author.Needs.{needs}
 use mathlib.Core.Path.{sym, _∙_}
-use Rattle.ink.proofs.Walk.{walked-to, walked-wrong}
-use Rattle.ink.proofs.Calls.{inks-unmarked, inks-room, inks-done}
+use Rattle.inkprint.proofs.Walk.{walked-to, walked-wrong}
+use Rattle.inkprint.proofs.Calls.{inks-unmarked, inks-room, inks-done}
 use Rattle.ink.proofs.marking.mark_measured.Statement.{statement}
 use Rattle.ink.proofs.marking.mark_measured.Tie as tie
 

@@ -2,9 +2,9 @@
 use borrow.Author.Needs.{needs}
 use mathlib.Core.Path.{sym, _∙_}
 use native.Mathlib.Omega.{arith}
-use Rattle.ink.specs.Marks.{marking}
-use Rattle.ink.proofs.Walk.{walked-to, judged-wrong, fine-never-wrong, four-each}
-use Rattle.ink.proofs.Calls.{inks-unmarked, inks-done}
+use Rattle.inkprint.specs.Marks.{marking}
+use Rattle.inkprint.proofs.Walk.{walked-to, judged-wrong, fine-never-wrong, four-each}
+use Rattle.inkprint.proofs.Calls.{inks-unmarked, inks-done}
 use Rattle.ink.proofs.marking.mark_roomy.Statement.{statement}
 use Rattle.ink.proofs.marking.mark_roomy.Tie as tie
 

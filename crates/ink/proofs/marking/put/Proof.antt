@@ -2,7 +2,7 @@
 use borrow.Author.Needs.{needs}
 use native.Mathlib.Omega.{arith}
 use lib.ListN.{length-set}
-use Rattle.ink.proofs.Walk.{puts-short, puts-none, puts-one, puts-two, puts-three, puts-four}
+use Rattle.inkprint.proofs.Walk.{puts-short, puts-none, puts-one, puts-two, puts-three, puts-four}
 use Rattle.ink.proofs.marking.put.Statement.{statement}
 use Rattle.ink.proofs.marking.put.Tie as tie
 

@@ -5,9 +5,9 @@ use Prim.Native.Nat.{_-_, _≤_}
 use mathlib.Core.Path.{_≡_, sym, _∙_}
 use native.Mathlib.Omega.{arith}
 use lib.ListN.{length, drop}
-use Rattle.ink.specs.Characters.{charactersOf}
-use Rattle.ink.specs.Marks.{sourceFrom, sourceOf}
-use Rattle.ink.proofs.Walk.{source-starts, source-ends, source-found, source-more}
+use Rattle.inkprint.specs.Characters.{charactersOf}
+use Rattle.inkprint.specs.Marks.{sourceFrom, sourceOf}
+use Rattle.inkprint.proofs.Walk.{source-starts, source-ends, source-found, source-more}
 use Rattle.ink.proofs.marking.source.Statement.{statement}
 use Rattle.ink.proofs.marking.source.Tie as tie
 

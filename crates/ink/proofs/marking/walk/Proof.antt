@@ -6,9 +6,9 @@ use mathlib.Core.Path.{_≡_, refl, sym, _∙_, ap}
 use native.Mathlib.Omega.{arith}
 use lib.ListN.{length, drop}
 use borrow.Author.Tests.{not-true, not-false}
-use Rattle.ink.specs.Characters.{charactersOf}
-use Rattle.ink.specs.inside.Steps.{walkedTo, Small}
-use Rattle.ink.proofs.Walk.{step-small, Walks, walk-starts, walk-on, walk-stops, walk-ends, never-marked, walk-wrote}
+use Rattle.inkprint.specs.Characters.{charactersOf}
+use Rattle.inkprint.specs.inside.Steps.{walkedTo, Small}
+use Rattle.inkprint.proofs.Walk.{step-small, Walks, walk-starts, walk-on, walk-stops, walk-ends, never-marked, walk-wrote}
 use Rattle.ink.proofs.marking.walk.Statement.{statement}
 use Rattle.ink.proofs.marking.walk.Tie as tie
 

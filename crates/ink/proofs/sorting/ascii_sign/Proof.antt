@@ -2,7 +2,7 @@
 use borrow.Author.Needs.{needs}
 use borrow.Author.Tests.{ne-eqb}
 use mathlib.Core.Path.{sym, _∙_}
-use Rattle.ink.specs.Glyphs.{isOwnSign, asciiSign}
+use Rattle.inkprint.specs.Glyphs.{isOwnSign, asciiSign}
 use Rattle.ink.proofs.sorting.ascii_sign.Statement.{statement}
 use Rattle.ink.proofs.sorting.ascii_sign.Tie as tie
 

@@ -3,7 +3,7 @@ use borrow.Author.Needs.{needs}
 use mathlib.Core.Path.{sym, _∙_}
 use native.Mathlib.Omega.{arith}
 use Rattle.table.proofs.Tests.{tells-within}
-use Rattle.ink.specs.Glyphs.{glyphOf}
+use Rattle.inkprint.specs.Glyphs.{glyphOf}
 use Rattle.ink.proofs.sorting.glyph.Statement.{statement}
 use Rattle.ink.proofs.sorting.glyph.Tie as tie
 

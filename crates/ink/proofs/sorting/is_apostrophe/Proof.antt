@@ -1,8 +1,8 @@
 -- `ink::sorting::is_apostrophe` meets its contract: the arms are the definition's, and the last one is for the rest.
 use borrow.Author.Needs.{needs}
 use mathlib.Core.Path.{sym, ap}
-use Rattle.ink.specs.Glyphs.{isApostrophe}
-use Rattle.ink.proofs.Glyphs.{apostrophe-rest}
+use Rattle.inkprint.specs.Glyphs.{isApostrophe}
+use Rattle.inkprint.proofs.Glyphs.{apostrophe-rest}
 use Rattle.ink.proofs.sorting.is_apostrophe.Statement.{statement}
 use Rattle.ink.proofs.sorting.is_apostrophe.Tie as tie
 

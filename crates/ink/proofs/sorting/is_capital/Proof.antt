@@ -1,6 +1,6 @@
 -- `ink::sorting::is_capital` meets its contract: the arms are the definition's, and the last one is for the rest.
 use borrow.Author.Needs.{needs}
-use Rattle.ink.proofs.Glyphs.{capital-rest}
+use Rattle.inkprint.proofs.Glyphs.{capital-rest}
 use Rattle.ink.proofs.sorting.is_capital.Statement.{statement}
 use Rattle.ink.proofs.sorting.is_capital.Tie as tie
 

@@ -1,6 +1,6 @@
 -- `ink::sorting::is_gap` meets its contract: the body is the definition's test.
 use mathlib.Core.Path.{refl}
-use Rattle.ink.specs.Glyphs.{isGap}
+use Rattle.inkprint.specs.Glyphs.{isGap}
 use Rattle.ink.proofs.sorting.is_gap.Statement.{statement}
 use Rattle.ink.proofs.sorting.is_gap.Tie as tie
 

@@ -1,6 +1,6 @@
 -- `ink::sorting::is_letter` meets its contract: the arms are the definition's, and the last one is for the rest.
 use borrow.Author.Needs.{needs}
-use Rattle.ink.proofs.Glyphs.{letter-rest}
+use Rattle.inkprint.proofs.Glyphs.{letter-rest}
 use Rattle.ink.proofs.sorting.is_letter.Statement.{statement}
 use Rattle.ink.proofs.sorting.is_letter.Tie as tie
 

@@ -1,6 +1,6 @@
 -- `ink::sorting::is_marked` meets its contract: the arms are the definition's, and the last one is for the rest.
 use borrow.Author.Needs.{needs}
-use Rattle.ink.proofs.Glyphs.{marked-rest}
+use Rattle.inkprint.proofs.Glyphs.{marked-rest}
 use Rattle.ink.proofs.sorting.is_marked.Statement.{statement}
 use Rattle.ink.proofs.sorting.is_marked.Tie as tie
 

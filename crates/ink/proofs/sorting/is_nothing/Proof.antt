@@ -1,6 +1,6 @@
 -- `ink::sorting::is_nothing` meets its contract: the body is the definition's test.
 use mathlib.Core.Path.{refl}
-use Rattle.ink.specs.Glyphs.{isNothing}
+use Rattle.inkprint.specs.Glyphs.{isNothing}
 use Rattle.ink.proofs.sorting.is_nothing.Statement.{statement}
 use Rattle.ink.proofs.sorting.is_nothing.Tie as tie
 

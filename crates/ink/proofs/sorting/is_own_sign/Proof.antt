@@ -1,6 +1,6 @@
 -- `ink::sorting::is_own_sign` meets its contract: the body is the definition's test.
 use mathlib.Core.Path.{refl}
-use Rattle.ink.specs.Glyphs.{isOwnSign}
+use Rattle.inkprint.specs.Glyphs.{isOwnSign}
 use Rattle.ink.proofs.sorting.is_own_sign.Statement.{statement}
 use Rattle.ink.proofs.sorting.is_own_sign.Tie as tie
 

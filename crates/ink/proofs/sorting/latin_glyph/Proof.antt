@@ -1,7 +1,7 @@
 -- `ink::sorting::latin_glyph` meets its contract: the body tests as the definition does.
 use borrow.Author.Needs.{needs}
 use borrow.Author.Tests.{ne-eqb, le-leb, lt-leb}
-use Rattle.ink.specs.Glyphs.{latinGlyph}
+use Rattle.inkprint.specs.Glyphs.{latinGlyph}
 use Rattle.ink.proofs.sorting.latin_glyph.Statement.{statement}
 use Rattle.ink.proofs.sorting.latin_glyph.Tie as tie
 

@@ -1,6 +1,6 @@
 -- `ink::sorting::literal_of` meets its contract: the body tests as the definition does.
 use borrow.Author.Tests.{ne-eqb}
-use Rattle.ink.specs.Glyphs.{literalOf}
+use Rattle.inkprint.specs.Glyphs.{literalOf}
 use Rattle.ink.proofs.sorting.literal_of.Statement.{statement}
 use Rattle.ink.proofs.sorting.literal_of.Tie as tie
 

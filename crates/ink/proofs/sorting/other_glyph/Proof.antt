@@ -4,7 +4,7 @@ use borrow.Author.Tests.{ne-eqb}
 use mathlib.Core.Path.{sym, _∙_}
 use native.Mathlib.Omega.{arith}
 use Rattle.table.proofs.Tests.{tells-within}
-use Rattle.ink.specs.Glyphs.{otherGlyph}
+use Rattle.inkprint.specs.Glyphs.{otherGlyph}
 use Rattle.ink.proofs.sorting.other_glyph.Statement.{statement}
 use Rattle.ink.proofs.sorting.other_glyph.Tie as tie
 

@@ -2,7 +2,7 @@
 use borrow.Author.Needs.{needs}
 use borrow.Author.Tests.{ne-eqb}
 use mathlib.Core.Path.{sym, _∙_}
-use Rattle.ink.specs.Glyphs.{isDash, isLongDash, typographic}
+use Rattle.inkprint.specs.Glyphs.{isDash, isLongDash, typographic}
 use Rattle.ink.proofs.sorting.typographic.Statement.{statement}
 use Rattle.ink.proofs.sorting.typographic.Tie as tie
 

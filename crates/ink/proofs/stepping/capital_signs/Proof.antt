@@ -1,7 +1,7 @@
 -- `ink::stepping::capital_signs` meets its contract: the body tests as the definition does.
 use borrow.Author.Tests.{eq-eqb, ne-eqb, not-true, not-false}
 use native.Mathlib.Omega.{arith}
-use Rattle.ink.specs.Marks.{capitalSigns}
+use Rattle.inkprint.specs.Marks.{capitalSigns}
 use Rattle.ink.proofs.stepping.capital_signs.Statement.{statement}
 use Rattle.ink.proofs.stepping.capital_signs.Tie as tie
 

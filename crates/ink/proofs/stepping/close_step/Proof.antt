@@ -5,9 +5,9 @@ use mathlib.Core.Bool.{false, not, _&&_}
 use mathlib.Core.Logic.{⊎-elim}
 use mathlib.Core.Path.{_≡_, sym, _∙_}
 use lib.ListN.{drop}
-use Rattle.ink.specs.Characters.{charactersOf}
-use Rattle.ink.specs.Marks.{startsLetter, closeStep}
-use Rattle.ink.proofs.Steps.{closes-none}
+use Rattle.inkprint.specs.Characters.{charactersOf}
+use Rattle.inkprint.specs.Marks.{startsLetter, closeStep}
+use Rattle.inkprint.proofs.Steps.{closes-none}
 use Rattle.ink.proofs.stepping.close_step.Statement.{statement}
 use Rattle.ink.proofs.stepping.close_step.Tie as tie
 

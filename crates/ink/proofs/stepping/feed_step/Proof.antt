@@ -1,7 +1,7 @@
 -- `ink::stepping::feed_step` meets its contract: the body tests as the definition does.
 use borrow.Author.Needs.{needs}
 use borrow.Author.Tests.{eq-eqb, ne-eqb}
-use Rattle.ink.specs.Marks.{feedStep}
+use Rattle.inkprint.specs.Marks.{feedStep}
 use Rattle.ink.proofs.stepping.feed_step.Statement.{statement}
 use Rattle.ink.proofs.stepping.feed_step.Tie as tie
 

@@ -4,7 +4,7 @@ use borrow.Author.Tests.{eq-eqb, ne-eqb}
 use mathlib.Core.Bool.{true≢false}
 use mathlib.Core.Logic.{⊎-elim}
 use mathlib.Core.Path.{sym, _∙_}
-use Rattle.ink.specs.Marks.{gapStep}
+use Rattle.inkprint.specs.Marks.{gapStep}
 use Rattle.ink.proofs.stepping.gap_step.Statement.{statement}
 use Rattle.ink.proofs.stepping.gap_step.Tie as tie
 

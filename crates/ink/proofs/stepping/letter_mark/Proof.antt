@@ -1,7 +1,7 @@
 -- `ink::stepping::letter_mark` meets its contract: the body tests as the definition does.
 use borrow.Author.Needs.{needs}
 use borrow.Author.Tests.{ne-eqb}
-use Rattle.ink.specs.Marks.{letterMark}
+use Rattle.inkprint.specs.Marks.{letterMark}
 use Rattle.ink.proofs.stepping.letter_mark.Statement.{statement}
 use Rattle.ink.proofs.stepping.letter_mark.Tie as tie
 

@@ -1,6 +1,6 @@
 -- `ink::stepping::letter_step` meets its contract: the word, its signs and the mark are the definition's.
 use borrow.Author.Needs.{needs}
-use Rattle.ink.specs.Marks.{letterStep}
+use Rattle.inkprint.specs.Marks.{letterStep}
 use Rattle.ink.proofs.stepping.letter_step.Statement.{statement}
 use Rattle.ink.proofs.stepping.letter_step.Tie as tie
 

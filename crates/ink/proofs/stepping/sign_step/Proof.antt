@@ -3,7 +3,7 @@ use borrow.Author.Needs.{needs}
 use borrow.Author.Tests.{eq-eqb, ne-eqb}
 use mathlib.Core.Logic.{⊎-elim}
 use mathlib.Core.Path.{sym, _∙_}
-use Rattle.ink.specs.Marks.{signStep}
+use Rattle.inkprint.specs.Marks.{signStep}
 use Rattle.ink.proofs.stepping.sign_step.Statement.{statement}
 use Rattle.ink.proofs.stepping.sign_step.Tie as tie
 

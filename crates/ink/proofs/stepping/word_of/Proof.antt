@@ -3,7 +3,7 @@ use borrow.Author.Needs.{needs}
 use borrow.Author.Tests.{eq-eqb, ne-eqb}
 use mathlib.Core.Logic.{⊎-elim}
 use mathlib.Core.Path.{sym, _∙_}
-use Rattle.ink.specs.Marks.{wordOf}
+use Rattle.inkprint.specs.Marks.{wordOf}
 use Rattle.ink.proofs.stepping.word_of.Statement.{statement}
 use Rattle.ink.proofs.stepping.word_of.Tie as tie
 

@@ -1,6 +1,6 @@
 -- `tlopahuexi::checking::tlopahuexi_check` meets its contract: proofs/Told.antt, from what `check` and the refusal's methods promise.
 use borrow.Author.Needs.{needs}
-use Rattle.tlopahuexi.proofs.Told.{judged-accepted, judged-refused}
+use Rattle.calls.proofs.Told.{judged-accepted, judged-refused}
 use Rattle.tlopahuexi.proofs.checking.tlopahuexi_check.Statement.{statement}
 use Rattle.tlopahuexi.proofs.checking.tlopahuexi_check.Tie as tie
 

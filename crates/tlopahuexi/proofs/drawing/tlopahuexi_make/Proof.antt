@@ -1,6 +1,6 @@
 -- `tlopahuexi::drawing::tlopahuexi_make` meets its contract: proofs/Told.antt, from what `make` and the answer's methods promise.
 use borrow.Author.Needs.{needs}
-use Rattle.tlopahuexi.proofs.Told.{redrawn}
+use Rattle.calls.proofs.Told.{redrawn}
 use Rattle.tlopahuexi.proofs.drawing.tlopahuexi_make.Statement.{statement}
 use Rattle.tlopahuexi.proofs.drawing.tlopahuexi_make.Tie as tie
 

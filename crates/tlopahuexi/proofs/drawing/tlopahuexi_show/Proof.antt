@@ -1,6 +1,6 @@
 -- `tlopahuexi::drawing::tlopahuexi_show` meets its contract: proofs/Told.antt, from what `show` and the answer's methods promise.
 use borrow.Author.Needs.{needs}
-use Rattle.tlopahuexi.proofs.Told.{redrawn}
+use Rattle.calls.proofs.Told.{redrawn}
 use Rattle.tlopahuexi.proofs.drawing.tlopahuexi_show.Statement.{statement}
 use Rattle.tlopahuexi.proofs.drawing.tlopahuexi_show.Tie as tie
 

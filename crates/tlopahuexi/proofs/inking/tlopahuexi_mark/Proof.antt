@@ -1,6 +1,6 @@
 -- `tlopahuexi::inking::tlopahuexi_mark` meets its contract: proofs/Told.antt, from what `mark` and the answer's methods promise.
 use borrow.Author.Needs.{needs}
-use Rattle.tlopahuexi.proofs.Told.{inkprinted}
+use Rattle.calls.proofs.Told.{inkprinted}
 use Rattle.tlopahuexi.proofs.inking.tlopahuexi_mark.Statement.{statement}
 use Rattle.tlopahuexi.proofs.inking.tlopahuexi_mark.Tie as tie
 

@@ -1,6 +1,6 @@
 -- `tlopahuexi::stamping::tlopahuexi_stamp` meets its contract: proofs/Told.antt, from what `stamp` and the answer's methods promise.
 use borrow.Author.Needs.{needs}
-use Rattle.tlopahuexi.proofs.Told.{marked}
+use Rattle.calls.proofs.Told.{marked}
 use Rattle.tlopahuexi.proofs.stamping.tlopahuexi_stamp.Statement.{statement}
 use Rattle.tlopahuexi.proofs.stamping.tlopahuexi_stamp.Tie as tie
 
