@@ -8,7 +8,7 @@ ghost use Rattle.layout.specs.Promises.{Embossed};
 use crate::Answer;
 use pages::Filled;
 use pages::Sheet;
-use sheets::fill;
+use pages::fill;
 use translation::Setting;
 use translation::Terms;
 use translation::Translation;

@@ -1,4 +1,4 @@
--- What each public function of this crate and of sheets promises, as a relation between what it is given and what it answers. proofs/Promises.antt shows that any two
+-- What each public function of this crate promises, as a relation between what it is given and what it answers. proofs/Promises.antt shows that any two
 -- results that a promise allows are equal.
 use Prim.Native.Nat.{ℕ}
 use mathlib.Core.List.{List}

@@ -1,9 +1,14 @@
 // Signs to words, and words to lines and pages: the place on the page, its moves, and the pages
-// that are written. What each type and call means is said in specs/; this file has the types that
-// the definitions and the calls share. The call that lays signs out is in sheets.
+// that are written. What each type means is said in specs/; this file has the types that the
+// definitions and the calls share.
 
+mod filling;
+mod measuring;
+mod moving;
 mod sizing;
+mod writing;
 
+pub use filling::fill;
 use table::Refusal;
 
 // A sheet: how many cells a line holds, and how many lines a page.
@@ -26,9 +31,9 @@ pub struct Place {
 
 // How far the gathering of signs has come: the place, and how many cells of a word wait to be
 // placed.
-pub struct Gathering {
-    pub place: Place,
-    pub cells: usize,
+struct Gathering {
+    place: Place,
+    cells: usize,
 }
 
 // What laying out answers: how many bytes, lines and pages there are, or the refusal.
