@@ -74,10 +74,10 @@ fn help_check() -> i32 {
     print(
         b"press check TABLE [--year N]
 
-What an accepted table has: its form, letters, entries, how many of them are in force in the
-year, right contexts, state variables, decision columns, and its stamp. Of a refused one the first
-wrong byte: its section and record, its name, what it holds and what it may hold, and of a readable
-table its line.
+What an accepted table has: its form, letters, entries, how many of them are in force in each year
+(and in the one that --year names), right contexts, state variables, decision columns, and its
+stamp. Of a refused one the first wrong byte: its section and record, its name, what it holds and
+what it may hold, and of a readable table its line.
 
   bin/press check tables/english.table --year 1932
 ",

@@ -1,7 +1,7 @@
 // A table in words: what an accepted one has, and of a refused one the section, the record, the byte,
 // what it holds and what it may hold.
 
-ghost use Prim.Native.Nat.{_<_};
+ghost use Prim.Native.Nat.{_<_, _≤_};
 use crate::lining::line_of;
 use console::write_whole;
 use desk::say;
@@ -358,8 +358,76 @@ pub fn print_stamp(stamped: Stamped) -> bool {
         && write_whole(STDOUT_FILENO, b"\n")
 }
 
-fn print_forced(n: usize, year: u16) -> bool {
-    write_whole(STDOUT_FILENO, b"in force   ") && print_number(n) && print_line(b" in ", wide(year))
+// The earlier of `found` and `change`, where that is after `year`.
+fn sooner(change: usize, year: usize, found: usize) -> usize
+    requires { ⌜ year < found ⌝ }
+    ensures { λ r. ⌜ (year < r) × (r ≤ found) ⌝ }
+{
+    if change <= year {
+        return found;
+    }
+    if found < change {
+        return found;
+    }
+    change
+}
+
+// The first year after `year` that has other entries in force, 65536 where there is none.
+fn next_change(image: &[u8], entries: Section, year: usize) -> usize
+    requires { ⌜ year < 65536 ⌝ }
+    ensures { λ r. ⌜ (year < r) × (r ≤ 65536) ⌝ }
+{
+    let records = entries.records;
+    let mut r: usize = 65536;
+    let mut k: u16 = 0;
+    while k < records {
+        let years = years_of(image, entries, k);
+        r = sooner(wide(years.first), year, r);
+        r = sooner(wide(years.last) + 1, year, r);
+        k += 1;
+    }
+    r
+}
+
+fn print_span(n: usize, first: usize, next: usize) -> bool
+    requires { ⌜ 0 < next ⌝ }
+{
+    if !(write_whole(STDOUT_FILENO, b"in force   ") && print_number(n)) {
+        return false;
+    }
+    if first == 0 {
+        if next == 65536 {
+            return write_whole(STDOUT_FILENO, b" in every year\n");
+        }
+        return print_line(b" until ", next - 1);
+    }
+    if next == 65536 {
+        return print_line(b" from ", first);
+    }
+    write_whole(STDOUT_FILENO, b" from ") && print_number(first) && print_line(b" to ", next - 1)
+}
+
+// How many entries are in force in each year: a line for each run of years with the same ones.
+fn print_years(image: &[u8], entries: Section) -> bool {
+    let mut year: usize = 0;
+    while year < 65536 {
+        let next = next_change(image, entries, year);
+        if !print_span(count_in_force(image, entries, year as u16), year, next) {
+            return false;
+        }
+        year = next;
+    }
+    true
+}
+
+// The year that was asked for. 65535 isn't: it is what has no end, and in the last line of the years.
+fn print_asked(image: &[u8], entries: Section, year: u16) -> bool {
+    if year == 65535 {
+        return true;
+    }
+    write_whole(STDOUT_FILENO, b"in force   ")
+        && print_number(count_in_force(image, entries, year))
+        && print_line(b" in ", wide(year))
 }
 
 // What an accepted table has.
@@ -369,7 +437,8 @@ pub fn print_table(image: &[u8], year: u16) -> bool {
     print_form(entries.size)
         && print_line(b"letters    ", wide(s.alphabet.records))
         && print_line(b"entries    ", wide(entries.records))
-        && print_forced(count_in_force(image, entries, year), year)
+        && print_years(image, entries)
+        && print_asked(image, entries, year)
         && print_line(b"contexts   ", wide(s.contexts.records))
         && print_line(b"variables  ", wide(s.variables))
         && print_line(b"columns    ", wide(s.decisions.records))
