@@ -3,7 +3,8 @@
 
    The status is 0 where the file is written; 1 where a call is refused, with the refusal's number
    and place on standard error, and no file is opened; 2 where the words are wrong; 3 where a file
-   can't be read or written. tests/example builds it and runs it. After 'rt staticlib tlopahuexi'
+   can't be read or written. tests/example builds it and runs it. After
+   'bin/build archive tlopahuexi'
 
        cc -Iinclude examples/emboss.c target/staticlib/libtlopahuexi.a -o emboss
 

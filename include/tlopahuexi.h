@@ -1,4 +1,4 @@
-/* The calls of the press for C and C++. 'rt staticlib tlopahuexi' proves them and writes the
+/* The calls of the press for C and C++. 'bin/build archive tlopahuexi' proves them and writes the
    archive that defines them, target/staticlib/libtlopahuexi.a, which a program links. It is for
    x86-64 alone, so lengths have 64 bits. examples/emboss.c shows a program.
 

@@ -34,21 +34,23 @@
 // layout with a line that ends in a blank and a file with a lower-case letter, each refused 16, the
 // same file at W 7, refused 5, and COME's with 3 bytes of room, refused 8.
 
+#![tactic(auto)]
+
 ghost use Rattle.std.specs.Prelude.{◌≤◌};
 ghost use Rattle.io.specs.Counts.{IsPrefixLen};
 
+use console::{read_whole, write_whole};
 use dates::Moved;
 use embosser::Filed;
 use inkprint::Inked;
 use layout::Answer;
-use libc::{STDIN_FILENO, STDOUT_FILENO};
 use pages::Sheet;
 use stamp::Stamped;
 use tables::{Drawn, Expected};
 use translation::Setting;
 
 // What a case asks, and its sizes.
-#[derive(Drop)]
+#[derive(Clone, Copy)]
 struct Head {
     asked: usize,
     image: usize,
@@ -113,11 +115,9 @@ fn read_head(head: &[u8; 48]) -> Head {
 // The buffer as it is lent.
 fn prepare(out: &mut [u8]) {
     let mut b: u8 = 13;
-    let mut i = 0;
-    while i < out.len() {
-        out[i] = b;
-        b = std::num::wrapping_add_u8(b, 7);
-        i += 1;
+    for byte in out {
+        *byte = b;
+        b = b.wrapping_add(7);
     }
 }
 
@@ -125,9 +125,14 @@ fn low_byte(n: usize) -> u8 {
     (n & 255) as u8
 }
 
-fn write_eight(n: usize) -> bool {
-    io::write_all(
-        STDOUT_FILENO,
+// Whether all of the bytes went to standard output.
+fn write_all(rt: &HostRuntime, bytes: &[u8]) -> bool {
+    write_whole(&mut rt.stdout(), bytes).is_ok()
+}
+
+fn write_eight(rt: &HostRuntime, n: usize) -> bool {
+    write_all(
+        rt,
         &[
             low_byte(n),
             low_byte(n >> 8),
@@ -141,43 +146,43 @@ fn write_eight(n: usize) -> bool {
     )
 }
 
-fn write_answer(answer: Answer) -> bool {
-    io::write_all(STDOUT_FILENO, &[answer.number()])
-        & write_eight(answer.place())
-        & write_eight(answer.written())
-        & write_eight(answer.pieces())
-        & write_eight(answer.lines())
-        & write_eight(answer.pages())
+fn write_answer(rt: &HostRuntime, answer: Answer) -> bool {
+    write_all(rt, &[answer.number()])
+        & write_eight(rt, answer.place())
+        & write_eight(rt, answer.written())
+        & write_eight(rt, answer.pieces())
+        & write_eight(rt, answer.lines())
+        & write_eight(rt, answer.pages())
 }
 
 // The answer of a mover, which has no pieces, lines and pages.
-fn write_moved(answer: Moved) -> bool {
-    io::write_all(STDOUT_FILENO, &[answer.number()])
-        & write_eight(answer.place())
-        & write_eight(answer.written())
-        & write_eight(0)
-        & write_eight(0)
-        & write_eight(0)
+fn write_moved(rt: &HostRuntime, answer: Moved) -> bool {
+    write_all(rt, &[answer.number()])
+        & write_eight(rt, answer.place())
+        & write_eight(rt, answer.written())
+        & write_eight(rt, 0)
+        & write_eight(rt, 0)
+        & write_eight(rt, 0)
 }
 
 // The answer of a stamp: its two numbers in the place of bytes written and pieces.
-fn write_stamped(answer: Stamped) -> bool {
-    io::write_all(STDOUT_FILENO, &[answer.number()])
-        & write_eight(answer.place())
-        & write_eight(whole(answer.first()))
-        & write_eight(whole(answer.second()))
-        & write_eight(0)
-        & write_eight(0)
+fn write_stamped(rt: &HostRuntime, answer: Stamped) -> bool {
+    write_all(rt, &[answer.number()])
+        & write_eight(rt, answer.place())
+        & write_eight(rt, whole(answer.first()))
+        & write_eight(rt, whole(answer.second()))
+        & write_eight(rt, 0)
+        & write_eight(rt, 0)
 }
 
 // The answer of a file, written or read, which has no pieces, lines and pages.
-fn write_filed(answer: Filed) -> bool {
-    io::write_all(STDOUT_FILENO, &[answer.number()])
-        & write_eight(answer.place())
-        & write_eight(answer.written())
-        & write_eight(0)
-        & write_eight(0)
-        & write_eight(0)
+fn write_filed(rt: &HostRuntime, answer: Filed) -> bool {
+    write_all(rt, &[answer.number()])
+        & write_eight(rt, answer.place())
+        & write_eight(rt, answer.written())
+        & write_eight(rt, 0)
+        & write_eight(rt, 0)
+        & write_eight(rt, 0)
 }
 
 fn small(n: u16) -> usize {
@@ -202,10 +207,10 @@ fn expected_number(expected: Expected) -> usize {
 }
 
 // The answer of a table shown or made.
-fn write_drawn(answer: Drawn) -> bool {
-    let told = io::write_all(STDOUT_FILENO, &[answer.number()])
-        & write_eight(answer.place())
-        & write_eight(answer.written());
+fn write_drawn(rt: &HostRuntime, answer: Drawn) -> bool {
+    let told = write_all(rt, &[answer.number()])
+        & write_eight(rt, answer.place())
+        & write_eight(rt, answer.written());
     match answer {
         Drawn::Unlike {
             at: _,
@@ -213,124 +218,141 @@ fn write_drawn(answer: Drawn) -> bool {
             column: character,
             expected: wanted,
         } => {
-            told & write_eight(row) & write_eight(character) & write_eight(expected_number(wanted))
+            told & write_eight(rt, row)
+                & write_eight(rt, character)
+                & write_eight(rt, expected_number(wanted))
         }
-        _ => told & write_eight(0) & write_eight(0) & write_eight(0),
+        _ => told & write_eight(rt, 0) & write_eight(rt, 0) & write_eight(rt, 0),
     }
 }
 
 // Reads the next `n` bytes of the input into the front of the buffer, and answers how many came;
 // none where the buffer hasn't the room.
-fn read_front(bytes: &mut [u8], n: usize) -> usize
+fn read_front(rt: &HostRuntime, bytes: &mut [u8], n: usize) -> usize
     ensures { IsPrefixLen result bytes.new }
 {
     if bytes.len() < n {
         return 0;
     }
-    io::read_full(STDIN_FILENO, &mut bytes[..n])
+    read_whole(&mut rt.stdin(), &mut bytes[..n]).count
 }
 
 // Answers the whole call into a buffer.
-fn emboss_into(setting: Setting, image: &[u8], text: &[u8], sheet: Sheet, out: &mut [u8]) -> bool {
+fn emboss_into(
+    rt: &HostRuntime,
+    setting: Setting,
+    image: &[u8],
+    text: &[u8],
+    sheet: Sheet,
+    out: &mut [u8],
+) -> bool {
     prepare(out);
     let answer = layout::emboss(setting, image, text, sheet, out);
-    write_answer(answer) & io::write_all(STDOUT_FILENO, out)
+    write_answer(rt, answer) & write_all(rt, out)
 }
 
 // Moves a table to the dated form, into a buffer.
-fn date_into(image: &[u8], out: &mut [u8]) -> bool {
+fn date_into(rt: &HostRuntime, image: &[u8], out: &mut [u8]) -> bool {
     prepare(out);
     let answer = movers::date(image, out);
-    write_moved(answer) & io::write_all(STDOUT_FILENO, out)
+    write_moved(rt, answer) & write_all(rt, out)
 }
 
 // Moves a table back to the old form, into a buffer.
-fn undate_into(image: &[u8], out: &mut [u8]) -> bool {
+fn undate_into(rt: &HostRuntime, image: &[u8], out: &mut [u8]) -> bool {
     prepare(out);
     let answer = movers::undate(image, out);
-    write_moved(answer) & io::write_all(STDOUT_FILENO, out)
+    write_moved(rt, answer) & write_all(rt, out)
 }
 
 // Stamps a table, beside a buffer.
-fn stamp_beside(image: &[u8], out: &mut [u8]) -> bool {
+fn stamp_beside(rt: &HostRuntime, image: &[u8], out: &mut [u8]) -> bool {
     prepare(out);
     let answer = stamp::stamp(image);
-    write_stamped(answer) & io::write_all(STDOUT_FILENO, out)
+    write_stamped(rt, answer) & write_all(rt, out)
 }
 
 // Writes the file of a layout into a buffer.
-fn write_into(layout: &[u8], sheet: Sheet, out: &mut [u8]) -> bool {
+fn write_into(rt: &HostRuntime, layout: &[u8], sheet: Sheet, out: &mut [u8]) -> bool {
     prepare(out);
     let answer = files::write_file(layout, sheet, out);
-    write_filed(answer) & io::write_all(STDOUT_FILENO, out)
+    write_filed(rt, answer) & write_all(rt, out)
 }
 
 // Reads a file into a buffer, as the layout it was written from.
-fn read_into(file: &[u8], sheet: Sheet, out: &mut [u8]) -> bool {
+fn read_into(rt: &HostRuntime, file: &[u8], sheet: Sheet, out: &mut [u8]) -> bool {
     prepare(out);
     let answer = files::read_file(file, sheet, out);
-    write_filed(answer) & io::write_all(STDOUT_FILENO, out)
+    write_filed(rt, answer) & write_all(rt, out)
 }
 
 // Shows a table, into a buffer.
-fn show_into(image: &[u8], out: &mut [u8]) -> bool {
+fn show_into(rt: &HostRuntime, image: &[u8], out: &mut [u8]) -> bool {
     prepare(out);
     let answer = tables::show(image, out);
-    write_drawn(answer) & io::write_all(STDOUT_FILENO, out)
+    write_drawn(rt, answer) & write_all(rt, out)
 }
 
 // Makes the table of a text, into a buffer.
-fn make_into(text: &[u8], out: &mut [u8]) -> bool {
+fn make_into(rt: &HostRuntime, text: &[u8], out: &mut [u8]) -> bool {
     prepare(out);
     let answer = tables::make(text, out);
-    write_drawn(answer) & io::write_all(STDOUT_FILENO, out)
+    write_drawn(rt, answer) & write_all(rt, out)
 }
 
 // The answer of marking.
-fn write_inked(answer: Inked) -> bool {
-    io::write_all(STDOUT_FILENO, &[answer.number()])
-        & write_eight(answer.place())
-        & write_eight(answer.written())
-        & write_eight(0)
-        & write_eight(0)
-        & write_eight(0)
+fn write_inked(rt: &HostRuntime, answer: Inked) -> bool {
+    write_all(rt, &[answer.number()])
+        & write_eight(rt, answer.place())
+        & write_eight(rt, answer.written())
+        & write_eight(rt, 0)
+        & write_eight(rt, 0)
+        & write_eight(rt, 0)
 }
 
 // Marks the text, into a buffer.
-fn mark_into(text: &[u8], out: &mut [u8]) -> bool {
+fn mark_into(rt: &HostRuntime, text: &[u8], out: &mut [u8]) -> bool {
     prepare(out);
     let answer = ink::mark(text, out);
-    write_inked(answer) & io::write_all(STDOUT_FILENO, out)
+    write_inked(rt, answer) & write_all(rt, out)
 }
 
 // Where a byte of the marked text comes from, beside a buffer.
-fn source_beside(text: &[u8], n: usize, out: &mut [u8]) -> bool {
+fn source_beside(rt: &HostRuntime, text: &[u8], n: usize, out: &mut [u8]) -> bool {
     prepare(out);
-    io::write_all(STDOUT_FILENO, &[0])
-        & write_eight(ink::source(text, n))
-        & write_eight(0)
-        & write_eight(0)
-        & write_eight(0)
-        & write_eight(0)
-        & io::write_all(STDOUT_FILENO, out)
+    write_all(rt, &[0])
+        & write_eight(rt, ink::source(text, n))
+        & write_eight(rt, 0)
+        & write_eight(rt, 0)
+        & write_eight(rt, 0)
+        & write_eight(rt, 0)
+        & write_all(rt, out)
 }
 
 // Answers one case about a text or a table, into a buffer.
-fn answer_other(asked: usize, image: &[u8], text: &[u8], n: usize, out: &mut [u8]) -> bool {
+fn answer_other(
+    rt: &HostRuntime,
+    asked: usize,
+    image: &[u8],
+    text: &[u8],
+    n: usize,
+    out: &mut [u8],
+) -> bool {
     if asked == 6 {
-        return show_into(image, out);
+        return show_into(rt, image, out);
     }
     if asked == 7 {
-        return make_into(text, out);
+        return make_into(rt, text, out);
     }
     if asked == 8 {
-        return mark_into(text, out);
+        return mark_into(rt, text, out);
     }
-    source_beside(text, n, out)
+    source_beside(rt, text, n, out)
 }
 
 // Answers one case into a buffer, by what it asks.
 fn answer_into(
+    rt: &HostRuntime,
     asked: usize,
     setting: Setting,
     image: &[u8],
@@ -339,24 +361,24 @@ fn answer_into(
     out: &mut [u8],
 ) -> bool {
     if asked == 0 {
-        return emboss_into(setting, image, text, sheet, out);
+        return emboss_into(rt, setting, image, text, sheet, out);
     }
     if asked == 1 {
-        return date_into(image, out);
+        return date_into(rt, image, out);
     }
     if asked == 2 {
-        return undate_into(image, out);
+        return undate_into(rt, image, out);
     }
     if asked == 3 {
-        return stamp_beside(image, out);
+        return stamp_beside(rt, image, out);
     }
     if asked == 4 {
-        return write_into(text, sheet, out);
+        return write_into(rt, text, sheet, out);
     }
     if asked == 5 {
-        return read_into(text, sheet, out);
+        return read_into(rt, text, sheet, out);
     }
-    answer_other(asked, image, text, sheet.width, out)
+    answer_other(rt, asked, image, text, sheet.width, out)
 }
 
 // Room for a text, or for a layout or a file in its place.
@@ -366,6 +388,7 @@ fn large() -> [u8; 163840] {
 
 // Answers one case with so much room.
 fn answer(
+    rt: &HostRuntime,
     asked: usize,
     setting: Setting,
     image: &[u8],
@@ -377,19 +400,20 @@ fn answer(
     if out.len() < room {
         return false;
     }
-    answer_into(asked, setting, image, text, sheet, &mut out[..room])
+    answer_into(rt, asked, setting, image, text, sheet, &mut out[..room])
 }
 
 // Answers the case with this head, whose image and text follow.
-fn answer_with(head: Head) -> bool {
+fn answer_with(rt: &HostRuntime, head: Head) -> bool {
     let mut image = [0u8; 65536];
-    let held = read_front(&mut image, head.image);
+    let held = read_front(rt, &mut image, head.image);
     let mut text = large();
-    let length = read_front(&mut text, head.text);
+    let length = read_front(rt, &mut text, head.text);
     if (held != head.image) | (length != head.text) | (9 < head.asked) {
         return false;
     }
     answer(
+        rt,
         head.asked,
         head.setting,
         &image[..held],
@@ -400,19 +424,20 @@ fn answer_with(head: Head) -> bool {
 }
 
 // Answers the next case, and says whether there was one.
-fn answer_next() -> bool {
+fn answer_next(rt: &HostRuntime) -> bool {
     let mut head = [0u8; 48];
-    if io::read_full(STDIN_FILENO, &mut head) != 48 {
+    if read_front(rt, &mut head, 48) != 48 {
         return false;
     }
-    answer_with(read_head(&head))
+    answer_with(rt, read_head(&head))
 }
 
-// A proved loop has to end, and nothing says that the input does: the cases are counted down from a
-// number that no run uses up.
-fn main() {
-    let mut left = u64::MAX;
-    while left > 0 && answer_next() {
-        left -= 1;
+// A proved loop has to end, and nothing says that the input does: the cases are counted by a number
+// that no run comes to the end of.
+fn main(rt: HostRuntime) {
+    for _ in 0..u64::MAX {
+        if !answer_next(&rt) {
+            return;
+        }
     }
 }

@@ -2,45 +2,45 @@
 // one line that names what is wrong.
 
 use crate::{Asked, Command, Number, Taken};
-use check::same;
 use desk::{say, say_number};
+use std::env::{Env, FillError};
 
 // The command of a word.
 fn command_of(word: &[u8]) -> Command {
-    if same(word, b"emboss") {
+    if word == b"emboss".as_slice() {
         return Command::Emboss;
     }
-    if same(word, b"preview") {
+    if word == b"preview".as_slice() {
         return Command::Preview;
     }
-    if same(word, b"read") {
+    if word == b"read".as_slice() {
         return Command::Read;
     }
-    if same(word, b"check") {
+    if word == b"check".as_slice() {
         return Command::Check;
     }
-    if same(word, b"stamp") {
+    if word == b"stamp".as_slice() {
         return Command::Stamp;
     }
-    if same(word, b"date") {
+    if word == b"date".as_slice() {
         return Command::Date;
     }
-    if same(word, b"undate") {
+    if word == b"undate".as_slice() {
         return Command::Undate;
     }
-    if same(word, b"make") {
+    if word == b"make".as_slice() {
         return Command::Make;
     }
-    if same(word, b"show") {
+    if word == b"show".as_slice() {
         return Command::Show;
     }
-    if same(word, b"mark") {
+    if word == b"mark".as_slice() {
         return Command::Mark;
     }
-    if same(word, b"help") | same(word, b"--help") | same(word, b"-h") {
+    if (word == b"help".as_slice()) | (word == b"--help".as_slice()) | (word == b"-h".as_slice()) {
         return Command::Help;
     }
-    if same(word, b"--version") {
+    if word == b"--version".as_slice() {
         return Command::Version;
     }
     Command::Unknown
@@ -64,22 +64,22 @@ const INK: u8 = 6;
 
 // The option of a word that begins with a hyphen.
 fn option_of(word: &[u8]) -> u8 {
-    if same(word, b"--width") {
+    if word == b"--width".as_slice() {
         return WIDTH;
     }
-    if same(word, b"--page") {
+    if word == b"--page".as_slice() {
         return PAGE;
     }
-    if same(word, b"--year") {
+    if word == b"--year".as_slice() {
         return YEAR;
     }
-    if same(word, b"--following") {
+    if word == b"--following".as_slice() {
         return FOLLOWING;
     }
-    if same(word, b"-o") {
+    if word == b"-o".as_slice() {
         return OUTPUT;
     }
-    if same(word, b"--ink") {
+    if word == b"--ink".as_slice() {
         return INK;
     }
     NOTHING
@@ -109,59 +109,69 @@ fn number_of(word: &[u8]) -> Number {
     Number::Is(n)
 }
 
-fn wrong(before: &[u8], word: &[u8], after: &[u8]) -> Taken {
-    say(b"press: ");
-    say(before);
-    say(word);
-    say(after);
-    say(b"\n");
+fn wrong(rt: &HostRuntime, before: &[u8], word: &[u8], after: &[u8]) -> Taken {
+    say(rt, b"press: ");
+    say(rt, before);
+    say(rt, word);
+    say(rt, after);
+    say(rt, b"\n");
     Taken::Wrong
 }
 
 // The value of an option.
-fn width_given(asked: Asked, word: &[u8]) -> Taken {
+fn width_given(rt: &HostRuntime, asked: Asked, word: &[u8]) -> Taken {
     match number_of(word) {
         Number::Is(n) => {
             let mut next = asked;
             next.width = n;
             Taken::Right(next)
         }
-        Number::Not => wrong(b"--width wants a number, not '", word, b"'"),
+        Number::Not => wrong(rt, b"--width wants a number, not '", word, b"'"),
     }
 }
 
-fn page_given(asked: Asked, word: &[u8]) -> Taken {
+fn page_given(rt: &HostRuntime, asked: Asked, word: &[u8]) -> Taken {
     match number_of(word) {
         Number::Is(n) => {
             let mut next = asked;
             next.page = n;
             Taken::Right(next)
         }
-        Number::Not => wrong(b"--page wants a number, not '", word, b"'"),
+        Number::Not => wrong(rt, b"--page wants a number, not '", word, b"'"),
     }
 }
 
-fn no_year(word: &[u8]) -> Taken {
-    wrong(b"--year wants a number from 0 to 65535, not '", word, b"'")
+fn no_year(rt: &HostRuntime, word: &[u8]) -> Taken {
+    wrong(
+        rt,
+        b"--year wants a number from 0 to 65535, not '",
+        word,
+        b"'",
+    )
 }
 
-fn year_given(asked: Asked, word: &[u8]) -> Taken {
+fn year_given(rt: &HostRuntime, asked: Asked, word: &[u8]) -> Taken {
     match number_of(word) {
         Number::Is(n) => {
             if 65535 < n {
-                return no_year(word);
+                return no_year(rt, word);
             }
             let mut next = asked;
             next.year = n as u16;
             Taken::Right(next)
         }
-        Number::Not => no_year(word),
+        Number::Not => no_year(rt, word),
     }
 }
 
-fn following_given(asked: Asked, word: &[u8]) -> Taken {
+fn following_given(rt: &HostRuntime, asked: Asked, word: &[u8]) -> Taken {
     if word.len() != 1 {
-        return wrong(b"--following wants one ASCII character, not '", word, b"'");
+        return wrong(
+            rt,
+            b"--following wants one ASCII character, not '",
+            word,
+            b"'",
+        );
     }
     let mut next = asked;
     next.following = word[0];
@@ -175,26 +185,31 @@ fn output_given(asked: Asked, i: usize) -> Taken {
 }
 
 // The value of an option, which is argument `i`.
-fn take_value(asked: Asked, option: u8, word: &[u8], i: usize) -> Taken {
+fn take_value(rt: &HostRuntime, asked: Asked, option: u8, word: &[u8], i: usize) -> Taken {
     if option == WIDTH {
-        return width_given(asked, word);
+        return width_given(rt, asked, word);
     }
     if option == PAGE {
-        return page_given(asked, word);
+        return page_given(rt, asked, word);
     }
     if option == YEAR {
-        return year_given(asked, word);
+        return year_given(rt, asked, word);
     }
     if option == FOLLOWING {
-        return following_given(asked, word);
+        return following_given(rt, asked, word);
     }
     output_given(asked, i)
 }
 
-fn take_option(asked: Asked, word: &[u8]) -> Taken {
+fn take_option(rt: &HostRuntime, asked: Asked, word: &[u8]) -> Taken {
     let option = option_of(word);
     if option == NOTHING {
-        return wrong(b"there is no option '", word, b"'; press help lists them");
+        return wrong(
+            rt,
+            b"there is no option '",
+            word,
+            b"'; press help lists them",
+        );
     }
     let mut next = asked;
     if option == INK {
@@ -215,7 +230,7 @@ fn takes_text(command: Command) -> bool {
 }
 
 // An argument that is no option: the table or the file, then the text.
-fn take_name(command: Command, asked: Asked, word: &[u8], i: usize) -> Taken {
+fn take_name(rt: &HostRuntime, command: Command, asked: Asked, word: &[u8], i: usize) -> Taken {
     let mut next = asked;
     if asked.first == 0 {
         next.first = i;
@@ -225,7 +240,7 @@ fn take_name(command: Command, asked: Asked, word: &[u8], i: usize) -> Taken {
         next.second = i;
         return Taken::Right(next);
     }
-    wrong(b"'", word, b"' is one name too many")
+    wrong(rt, b"'", word, b"' is one name too many")
 }
 
 fn is_option(word: &[u8]) -> bool {
@@ -236,33 +251,34 @@ fn is_option(word: &[u8]) -> bool {
 }
 
 // Argument `i`, of this word.
-fn take_word(command: Command, asked: Asked, word: &[u8], i: usize) -> Taken {
+fn take_word(rt: &HostRuntime, command: Command, asked: Asked, word: &[u8], i: usize) -> Taken {
     let option = asked.waiting;
     if option != NOTHING {
         let mut next = asked;
         next.waiting = NOTHING;
-        return take_value(next, option, word, i);
+        return take_value(rt, next, option, word, i);
     }
     if is_option(word) {
-        return take_option(asked, word);
+        return take_option(rt, asked, word);
     }
-    take_name(command, asked, word, i)
+    take_name(rt, command, asked, word, i)
 }
 
-fn say_long(i: usize) {
-    say(b"press: argument ");
-    say_number(i);
-    say(b" has more than 4,096 bytes\n");
+fn say_long(rt: &HostRuntime, i: usize) {
+    say(rt, b"press: argument ");
+    say_number(rt, i);
+    say(rt, b" has more than 4,096 bytes\n");
 }
 
-fn take_one(command: Command, asked: Asked, i: usize) -> Taken {
+fn take_one(rt: &HostRuntime, command: Command, asked: Asked, i: usize) -> Taken {
     let mut word = io::buffer();
-    let length = os::arg(i, &mut word);
-    if os::errno() != 0 {
-        say_long(i);
-        return Taken::Wrong;
+    match rt.arg(i, &mut word) {
+        Ok(length) => take_word(rt, command, asked, &word[..length], i),
+        Err(_) => {
+            say_long(rt, i);
+            Taken::Wrong
+        }
     }
-    take_word(command, asked, &word[..length], i)
 }
 
 fn defaults() -> Asked {
@@ -280,51 +296,49 @@ fn defaults() -> Asked {
 }
 
 // The arguments are over, and an option may wait for its value.
-fn ended(asked: Asked) -> Taken {
+fn ended(rt: &HostRuntime, asked: Asked) -> Taken {
     if asked.waiting == NOTHING {
         return Taken::Right(asked);
     }
     if asked.waiting == WIDTH {
-        return wrong(b"--width", b"", b" wants a number");
+        return wrong(rt, b"--width", b"", b" wants a number");
     }
     if asked.waiting == PAGE {
-        return wrong(b"--page", b"", b" wants a number");
+        return wrong(rt, b"--page", b"", b" wants a number");
     }
     if asked.waiting == YEAR {
-        return wrong(b"--year", b"", b" wants a number from 0 to 65535");
+        return wrong(rt, b"--year", b"", b" wants a number from 0 to 65535");
     }
     if asked.waiting == FOLLOWING {
-        return wrong(b"--following", b"", b" wants one ASCII character");
+        return wrong(rt, b"--following", b"", b" wants one ASCII character");
     }
-    wrong(b"-o", b"", b" wants the name of a file")
+    wrong(rt, b"-o", b"", b" wants the name of a file")
 }
 
 // The arguments after the command.
-pub fn take_rest(command: Command) -> Taken {
-    let count = os::arg_count();
+pub fn take_rest(rt: &HostRuntime, command: Command) -> Taken {
+    let count = arg_count(rt);
     let mut asked = defaults();
-    let mut i = 2;
-    while i < count {
-        let Taken::Right(next) = take_one(command, asked, i) else {
+    for i in 2..count {
+        let Taken::Right(next) = take_one(rt, command, asked, i) else {
             return Taken::Wrong;
         };
         asked = next;
-        i += 1;
     }
-    ended(asked)
+    ended(rt, asked)
 }
 
 // The command that argument `i` is. Where there is none, that has been said.
-pub fn take_command(i: usize) -> Command {
+pub fn take_command(rt: &HostRuntime, i: usize) -> Command {
     let mut word = io::buffer();
-    let length = os::arg(i, &mut word);
-    if os::errno() != 0 {
-        say_long(i);
+    let Ok(length) = rt.arg(i, &mut word) else {
+        say_long(rt, i);
         return Command::Unknown;
-    }
+    };
     let command = command_of(&word[..length]);
     if let Command::Unknown = command {
         wrong(
+            rt,
             b"there is no command '",
             &word[..length],
             b"'; press help lists them",
@@ -333,11 +347,25 @@ pub fn take_command(i: usize) -> Command {
     command
 }
 
+// How many arguments there are, the program's name among them.
+fn arg_count(rt: &HostRuntime) -> usize {
+    for i in 0..usize::MAX {
+        let mut word = [0u8; 0];
+        if let Err(FillError::NotPresent) = rt.arg(i, &mut word) {
+            return i;
+        }
+    }
+    usize::MAX
+}
+
 // The first argument is the command.
-pub fn take_first() -> Command {
-    if os::arg_count() < 2 {
-        say(b"press: what shall it do? press help lists the commands\n");
+pub fn take_first(rt: &HostRuntime) -> Command {
+    if arg_count(rt) < 2 {
+        say(
+            rt,
+            b"press: what shall it do? press help lists the commands\n",
+        );
         return Command::Unknown;
     }
-    take_command(1)
+    take_command(rt, 1)
 }

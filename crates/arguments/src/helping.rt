@@ -3,8 +3,9 @@
 use crate::Command;
 use desk::print;
 
-fn help_all() -> i32 {
+fn help_all(rt: &HostRuntime) -> i32 {
     print(
+        rt,
         b"press: inkprint to grade 2 braille by a contraction table
 
   press emboss TABLE [TEXT]   the embosser file (braille ASCII) of a text
@@ -33,8 +34,9 @@ wrong usage, 3 a file that can't be opened, read or written.
     )
 }
 
-fn help_emboss() -> i32 {
+fn help_emboss(rt: &HostRuntime) -> i32 {
     print(
+        rt,
         b"press emboss TABLE [TEXT] [-o FILE] [--width N] [--page N] [--year N] [--following C] [--ink]
 
 Translates a text by a table, lays it out in lines and pages and writes the embosser file:
@@ -47,8 +49,9 @@ inkprint, which is a file named .txt, or any with --ink, is marked first (press 
     )
 }
 
-fn help_preview() -> i32 {
+fn help_preview(rt: &HostRuntime) -> i32 {
     print(
+        rt,
         b"press preview TABLE [TEXT] [--width N] [--page N] [--year N] [--following C] [--ink]
 
 What press emboss would write, as Unicode braille, line by line, with a rule between pages.
@@ -58,8 +61,9 @@ What press emboss would write, as Unicode braille, line by line, with a rule bet
     )
 }
 
-fn help_read() -> i32 {
+fn help_read(rt: &HostRuntime) -> i32 {
     print(
+        rt,
         b"press read FILE [--width N] [--page N]
 
 Judges an embosser file by the width and the page, and shows it as a preview. Small letters, a line
@@ -70,8 +74,9 @@ that ends in a blank, a line or a page that is too long are refused (16) with th
     )
 }
 
-fn help_check() -> i32 {
+fn help_check(rt: &HostRuntime) -> i32 {
     print(
+        rt,
         b"press check TABLE [--year N]
 
 What an accepted table has: its form, letters, entries, how many of them are in force in each year
@@ -84,8 +89,9 @@ what it may hold, and of a readable table its line.
     )
 }
 
-fn help_stamp() -> i32 {
+fn help_stamp(rt: &HostRuntime) -> i32 {
     print(
+        rt,
         b"press stamp TABLE
 
 Two numbers over the bytes of an accepted table image, in hexadecimal. Another stamp is another
@@ -96,8 +102,9 @@ image; one that differs in one or two bytes has another stamp.
     )
 }
 
-fn help_movers() -> i32 {
+fn help_movers(rt: &HostRuntime) -> i32 {
     print(
+        rt,
         b"press date TABLE -o FILE
 press undate TABLE -o FILE
 
@@ -110,8 +117,9 @@ undate takes such years away again, and refuses a table with an entry that isn't
     )
 }
 
-fn help_mark() -> i32 {
+fn help_mark(rt: &HostRuntime) -> i32 {
     print(
+        rt,
         b"press mark [TEXT] [-o FILE]
 
 Marks inkprint, UTF-8, as the tables want it: letters in capitals, = before what was a capital, ==
@@ -123,8 +131,9 @@ dashes and dots as docs/ENGLISH.md lists them. A character that has no mark is r
     )
 }
 
-fn help_show() -> i32 {
+fn help_show(rt: &HostRuntime) -> i32 {
     print(
+        rt,
         b"press show TABLE [-o FILE]
 
 The readable form of a table, a record to a line, in columns: to look at, to keep under version
@@ -136,8 +145,9 @@ byte. Of a readable table it is the same table without its remarks, in columns.
     )
 }
 
-fn help_make() -> i32 {
+fn help_make(rt: &HostRuntime) -> i32 {
     print(
+        rt,
         b"press make TABLE -o FILE
 
 The table image of a readable table, which docs/TABLES.md describes. A text that isn't of the form
@@ -151,24 +161,25 @@ with it is said with its line, and the status is 1.
 }
 
 // The page of a command, or of all.
-pub fn help(command: Command) -> i32 {
+pub fn help(rt: &HostRuntime, command: Command) -> i32 {
     match command {
-        Command::Emboss => help_emboss(),
-        Command::Preview => help_preview(),
-        Command::Read => help_read(),
-        Command::Check => help_check(),
-        Command::Stamp => help_stamp(),
-        Command::Date => help_movers(),
-        Command::Undate => help_movers(),
-        Command::Show => help_show(),
-        Command::Mark => help_mark(),
-        Command::Make => help_make(),
-        _ => help_all(),
+        Command::Emboss => help_emboss(rt),
+        Command::Preview => help_preview(rt),
+        Command::Read => help_read(rt),
+        Command::Check => help_check(rt),
+        Command::Stamp => help_stamp(rt),
+        Command::Date => help_movers(rt),
+        Command::Undate => help_movers(rt),
+        Command::Show => help_show(rt),
+        Command::Mark => help_mark(rt),
+        Command::Make => help_make(rt),
+        _ => help_all(rt),
     }
 }
 
-pub fn version() -> i32 {
+pub fn version(rt: &HostRuntime) -> i32 {
     print(
+        rt,
         b"press 1 (documents 01 and 02, requests 1, 2, 3, 5, 6 and 14; readable tables; inkprint)\n",
     )
 }

@@ -2,6 +2,8 @@
 // the page of help of each command. No contract can say what the arguments are, so the functions
 // promise only that they are safe and end; the runs of press are compared (tests/press).
 
+#![tactic(auto)]
+
 mod asking;
 mod helping;
 
@@ -9,7 +11,7 @@ pub use asking::{take_command, take_first, take_rest};
 pub use helping::{help, version};
 
 // What is asked for.
-#[derive(Drop)]
+#[derive(Clone, Copy)]
 pub enum Command {
     Emboss,
     Preview,
@@ -29,7 +31,7 @@ pub enum Command {
 // The options, and what they are about: `first` and `second` are the numbers of the arguments that
 // are no options, `output` that of the file after -o, each 0 where there is none. `waiting` is the
 // option whose value comes next, and `ink` whether the text is inkprint.
-#[derive(Drop)]
+#[derive(Clone, Copy)]
 pub struct Asked {
     pub waiting: u8,
     pub ink: bool,
@@ -43,14 +45,14 @@ pub struct Asked {
 }
 
 // What came of taking arguments: where it is wrong, it has been said.
-#[derive(Drop)]
+#[derive(Clone, Copy)]
 pub enum Taken {
     Right(Asked),
     Wrong,
 }
 
 // A number in decimal, if it is one.
-#[derive(Drop)]
+#[derive(Clone, Copy)]
 enum Number {
     Is(usize),
     Not,

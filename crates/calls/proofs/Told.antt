@@ -9,19 +9,19 @@ use Rattle.table.specs.Promises.{RefusalNumber, RefusalPlace}
 use Rattle.table.specs.declared.Refusal.{Refusal}
 use Rattle.table.specs.declared.Verdict.{Verdict}
 use Rattle.table.specs.declared.Verdict.TheVariants.{Accepted, Refused}
-use Rattle.stamp.specs.Stamping.{number as numberOfStamped, place as placeOfStamped, first, second}
+use Rattle.stamp.specs.Stamping.{number as number_of_stamped, place as place_of_stamped, first, second}
 use Rattle.stamp.specs.Promises.{Stamps, Tells as TellsOfStamped}
 use Rattle.stamp.specs.declared.Stamped.{Stamped}
-use Rattle.dates.specs.Moving.{Outcome, number as numberOfMoved, place as placeOfMoved, written as writtenOfMoved}
+use Rattle.dates.specs.Moving.{Outcome, number as number_of_moved, place as place_of_moved, written as written_of_moved}
 use Rattle.dates.specs.Promises.{Ends, Tells as TellsOfMoved}
 use Rattle.dates.specs.declared.Moved.{Moved}
 use Rattle.form.specs.Calls.{Outcome as OutcomeOfDrawn, number_of, place_of, written_of, line_of, column_of}
 use Rattle.form.specs.Promises.{Ends as EndsDrawn, Tells as TellsOfDrawn}
 use Rattle.form.specs.declared.Drawn.{Drawn}
-use Rattle.inkprint.specs.Calls.{number_of as numberOfInked, place_of as placeOfInked, written_of as writtenOfInked}
+use Rattle.inkprint.specs.Calls.{number_of as number_of_inked, place_of as place_of_inked, written_of as written_of_inked}
 use Rattle.inkprint.specs.Promises.{Inks, Tells as TellsOfInked}
 use Rattle.inkprint.specs.declared.Inked.{Inked}
-use Rattle.layout.specs.Emboss.{number as numberOfAnswer, place as placeOfAnswer, written as writtenOfAnswer, pieces, lines, pages}
+use Rattle.layout.specs.Emboss.{number as number_of_answer, place as place_of_answer, written as written_of_answer, pieces, lines, pages}
 use Rattle.layout.specs.Promises.{Tells as TellsOfAnswer}
 use Rattle.layout.specs.declared.Answer.{Answer}
 use Rattle.embosser.specs.Filing.{number, place, written}
@@ -35,7 +35,7 @@ three_told : {n p w a b c : ℕ} → n ≡ a → p ≡ b → w ≡ c → n ∷ p
 three_told n p w = rw n (rw p (rw w refl))
 
 -- the six values of the whole call
-pub six_told : {a : Answer} {n p w k l g : ℕ} → TellsOfAnswer numberOfAnswer a n → TellsOfAnswer placeOfAnswer a p → TellsOfAnswer writtenOfAnswer a w
+pub six_told : {a : Answer} {n p w k l g : ℕ} → TellsOfAnswer number_of_answer a n → TellsOfAnswer place_of_answer a p → TellsOfAnswer written_of_answer a w
     → TellsOfAnswer pieces a k → TellsOfAnswer lines a l → TellsOfAnswer pages a g → n ∷ p ∷ w ∷ k ∷ l ∷ g ∷ [] ≡ six_values a
 unfolding six_values
 six_told n p w k l g = rw n.is (rw p.is (rw w.is (rw k.is (rw l.is (rw g.is refl)))))
@@ -47,12 +47,12 @@ unfolding three_values
 converted files n p w = record { answer = _; files = files; tells = three_told n.is p.is w.is }
 
 pub recast : {outcome : Outcome} {after : List ℕ} {a : Moved} {n p w : ℕ} → Ends outcome a after
-    → TellsOfMoved numberOfMoved a n → TellsOfMoved placeOfMoved a p → TellsOfMoved writtenOfMoved a w → Recast outcome after (n ∷ p ∷ w ∷ [])
+    → TellsOfMoved number_of_moved a n → TellsOfMoved place_of_moved a p → TellsOfMoved written_of_moved a w → Recast outcome after (n ∷ p ∷ w ∷ [])
 unfolding moved_values
 recast ends n p w = record { answer = _; ends = ends; tells = three_told n.is p.is w.is }
 
 pub marked : {image : List ℕ} {a : Stamped} {n p f s : ℕ} → Stamps image a
-    → TellsOfStamped numberOfStamped a n → TellsOfStamped placeOfStamped a p → TellsOfStamped first a f → TellsOfStamped second a s
+    → TellsOfStamped number_of_stamped a n → TellsOfStamped place_of_stamped a p → TellsOfStamped first a f → TellsOfStamped second a s
     → Marked image (n ∷ p ∷ f ∷ s ∷ [])
 unfolding four_values
 marked stamps n p f s = record { answer = _; stamps = stamps; tells = rw n.is (rw p.is (rw f.is (rw s.is refl))) }
@@ -65,7 +65,7 @@ redrawn ends n p w l k =
     record { answer = _; ends = ends; tells = rw n.is (rw p.is (rw w.is (rw l.is (rw k.is refl)))) }
 
 pub inkprinted : {text before after : List ℕ} {a : Inked} {n p w : ℕ} → Inks text before a after
-    → TellsOfInked numberOfInked a n → TellsOfInked placeOfInked a p → TellsOfInked writtenOfInked a w → Inkprinted text before after (n ∷ p ∷ w ∷ [])
+    → TellsOfInked number_of_inked a n → TellsOfInked place_of_inked a p → TellsOfInked written_of_inked a w → Inkprinted text before after (n ∷ p ∷ w ∷ [])
 unfolding inked_values
 inkprinted inks n p w = record { answer = _; inks = inks; tells = three_told n.is p.is w.is }
 

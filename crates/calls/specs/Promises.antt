@@ -6,22 +6,22 @@ use Rattle.table.specs.Answers.{refusal_number, refusal_place}
 use Rattle.judge.specs.Promises.{Checked}
 use Rattle.table.specs.declared.Verdict.{Verdict}
 use Rattle.table.specs.declared.Verdict.TheVariants.{Accepted, Refused}
-use Rattle.stamp.specs.Stamping.{number as numberOfStamped, place as placeOfStamped, first, second}
+use Rattle.stamp.specs.Stamping.{number as number_of_stamped, place as place_of_stamped, first, second}
 use Rattle.stamp.specs.Promises.{Stamps}
 use Rattle.stamp.specs.declared.Stamped.{Stamped}
-use Rattle.dates.specs.Moving.{Outcome, number as numberOfMoved, place as placeOfMoved, written as writtenOfMoved}
+use Rattle.dates.specs.Moving.{Outcome, number as number_of_moved, place as place_of_moved, written as written_of_moved}
 use Rattle.dates.specs.Promises.{Ends}
 use Rattle.dates.specs.declared.Moved.{Moved}
 use Rattle.form.specs.Calls.{Outcome as OutcomeOfDrawn, number_of, place_of, written_of, line_of, column_of}
 use Rattle.form.specs.Promises.{Ends as EndsDrawn}
 use Rattle.form.specs.declared.Drawn.{Drawn}
-use Rattle.inkprint.specs.Calls.{number_of as numberOfInked, place_of as placeOfInked, written_of as writtenOfInked}
+use Rattle.inkprint.specs.Calls.{number_of as number_of_inked, place_of as place_of_inked, written_of as written_of_inked}
 use Rattle.inkprint.specs.Promises.{Inks}
 use Rattle.inkprint.specs.declared.Inked.{Inked}
 use Rattle.layout.specs.Emboss.{number, place, written, pieces, lines, pages}
 use Rattle.layout.specs.Promises.{Embossed}
 use Rattle.layout.specs.declared.Answer.{Answer}
-use Rattle.embosser.specs.Filing.{number as numberOfFiled, place as placeOfFiled, written as writtenOfFiled}
+use Rattle.embosser.specs.Filing.{number as number_of_filed, place as place_of_filed, written as written_of_filed}
 use Rattle.embosser.specs.Promises.{Files}
 use Rattle.embosser.specs.declared.Kind.{Kind}
 use Rattle.embosser.specs.declared.Filed.{Filed}
@@ -38,7 +38,7 @@ pub record Pressed (image text : List ℕ) (following year W P : ℕ) (before af
 
 -- the three values that an answer about a file has, in the same order
 unfoldable pub three_values : Filed → List ℕ
-three_values a = numberOfFiled a ∷ placeOfFiled a ∷ writtenOfFiled a ∷ []
+three_values a = number_of_filed a ∷ place_of_filed a ∷ written_of_filed a ∷ []
 
 -- `tlopahuexi_write_file` of a layout and `tlopahuexi_read_file` of a file: an answer that `write_file` or `read_file` promises, with its output, and that
 -- answer's three values
@@ -60,7 +60,7 @@ pub record Judged (image values : List ℕ) : Type 0 where
 
 -- the four values that the answer of a stamping has
 unfoldable pub four_values : Stamped → List ℕ
-four_values a = numberOfStamped a ∷ placeOfStamped a ∷ first a ∷ second a ∷ []
+four_values a = number_of_stamped a ∷ place_of_stamped a ∷ first a ∷ second a ∷ []
 
 -- `tlopahuexi_stamp`: an answer that `stamp` promises, and that answer's four values
 pub record Marked (image values : List ℕ) : Type 0 where
@@ -70,7 +70,7 @@ pub record Marked (image values : List ℕ) : Type 0 where
 
 -- the three values of a mover's answer, in the order of a file's
 unfoldable pub moved_values : Moved → List ℕ
-moved_values a = numberOfMoved a ∷ placeOfMoved a ∷ writtenOfMoved a ∷ []
+moved_values a = number_of_moved a ∷ place_of_moved a ∷ written_of_moved a ∷ []
 
 -- `tlopahuexi_date` and `tlopahuexi_undate`: an answer that `date` or `undate` promises, which is that of the definitions' outcome, with its output, and that
 -- answer's three values
@@ -92,7 +92,7 @@ pub record Redrawn (outcome : OutcomeOfDrawn) (after values : List ℕ) : Type 0
 
 -- the three values of an answer about inkprint
 unfoldable pub inked_values : Inked → List ℕ
-inked_values a = numberOfInked a ∷ placeOfInked a ∷ writtenOfInked a ∷ []
+inked_values a = number_of_inked a ∷ place_of_inked a ∷ written_of_inked a ∷ []
 
 -- `tlopahuexi_mark`: an answer that `mark` promises, with its output, and that answer's three values
 pub record Inkprinted (text before after values : List ℕ) : Type 0 where

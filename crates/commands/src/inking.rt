@@ -1,11 +1,8 @@
 // Inkprint: a text as people have it is marked first, and a refusal of the marked text is told where
 // its character stands in the text as it was written.
 
-ghost use Rattle.io.specs.Counts.{IsPrefixLen};
-
 use arguments::Asked;
-use check::same;
-use desk::{front, keep, read_text, say, say_character, say_position, say_refused};
+use desk::{argument, front, keep, read_text, say, say_character, say_position, say_refused};
 
 // Room for inkprint, with one byte more than it may have.
 pub(crate) fn ink_room() -> [u8; 262145] {
@@ -19,7 +16,7 @@ pub(crate) fn marked_room() -> [u8; 786435] {
 
 // What came of marking: the status, 0 where the text is marked, the bytes of the ink text, and those
 // of the marked one.
-#[derive(Drop)]
+#[derive(Clone, Copy)]
 pub(crate) struct Marked {
     pub(crate) status: i32,
     pub(crate) ink: usize,
@@ -35,34 +32,35 @@ fn ended(status: i32) -> Marked {
 }
 
 // 21: a character that has no mark.
-fn not_marked(place: usize, text: &[u8]) -> i32 {
-    say_refused(21, place);
-    say_position(text, place);
-    say(b": no mark for ");
-    say_character(text, place);
-    say(b"\n");
+fn not_marked(rt: &HostRuntime, place: usize, text: &[u8]) -> i32 {
+    say_refused(rt, 21, place);
+    say_position(rt, text, place);
+    say(rt, b": no mark for ");
+    say_character(rt, text, place);
+    say(rt, b"\n");
     1
 }
 
-fn ink_long() -> i32 {
+fn ink_long(rt: &HostRuntime) -> i32 {
     say(
+        rt,
         b"press: the text has more than 262,144 bytes, which is more than this program has room for\n",
     );
     3
 }
 
 // The text of argument `i`, or of standard input where it is 0, is read and marked.
-pub(crate) fn read_ink(i: usize, text: &mut [u8], marked: &mut [u8]) -> Marked {
-    let reading = read_text(i, text);
-    if reading.failed {
+pub(crate) fn read_ink(rt: &HostRuntime, i: usize, text: &mut [u8], marked: &mut [u8]) -> Marked {
+    let reading = read_text(rt, i, text);
+    if reading.failed.is_some() {
         return ended(3);
     }
     if 262144 < reading.count {
-        return ended(ink_long());
+        return ended(ink_long(rt));
     }
     let inked = ink::mark(front(text, reading.count), marked);
     if inked.number() != 0 {
-        return ended(not_marked(inked.place(), front(text, reading.count)));
+        return ended(not_marked(rt, inked.place(), front(text, reading.count)));
     }
     Marked {
         status: 0,
@@ -72,31 +70,31 @@ pub(crate) fn read_ink(i: usize, text: &mut [u8], marked: &mut [u8]) -> Marked {
 }
 
 // Whether argument `i` names a file of inkprint.
-fn is_named_ink(i: usize) -> bool {
+fn is_named_ink(rt: &HostRuntime, i: usize) -> bool {
     if i == 0 {
         return false;
     }
     let mut name = io::buffer();
-    let length = os::arg(i, &mut name);
+    let length = argument(rt, i, &mut name);
     if length < 4 {
         return false;
     }
     let from = length - 4;
-    same(&name[from..length], b".txt")
+    &name[from..length] == b".txt".as_slice()
 }
 
 // Whether the text is inkprint: it is said to be, or its name ends in .txt.
-pub(crate) fn is_ink(asked: Asked) -> bool {
-    asked.ink || is_named_ink(asked.second)
+pub(crate) fn is_ink(rt: &HostRuntime, asked: Asked) -> bool {
+    asked.ink || is_named_ink(rt, asked.second)
 }
 
 // The command mark.
-pub(crate) fn mark_text(asked: Asked) -> i32 {
+pub(crate) fn mark_text(rt: &HostRuntime, asked: Asked) -> i32 {
     let mut text = ink_room();
     let mut marked = marked_room();
-    let done = read_ink(asked.first, &mut text, &mut marked);
+    let done = read_ink(rt, asked.first, &mut text, &mut marked);
     if done.status != 0 {
         return done.status;
     }
-    keep(asked.output, front(&marked, done.bytes))
+    keep(rt, asked.output, front(&marked, done.bytes))
 }

@@ -4,6 +4,8 @@
 // opened, read or written. No contract can say what files hold, so the functions promise only that
 // they are safe and end; the runs of the program press are compared (tests/press).
 
+#![tactic(auto)]
+
 mod inking;
 mod running;
 

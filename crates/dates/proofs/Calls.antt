@@ -15,7 +15,7 @@ use Rattle.table.proofs.Tests.{fails_law}
 use Rattle.table.proofs.Forms.{tells_dated}
 use Rattle.table.proofs.Refusals.{accepted_exactly_when}
 use Rattle.dates.specs.Forms.{dated_image, undated_image, first_dated}
-use Rattle.dates.specs.Moving.{number, written, wrote, Outcome, done, dating, undating}
+use Rattle.dates.specs.Moving.{number, wrote, Outcome, done, dating, undating}
 use Rattle.dates.specs.Promises.{Ends}
 use Rattle.dates.specs.Refusals.{Move, onward, back, moved_by, calling, other_form, of_table, line_17}
 use Rattle.dates.specs.declared.Moved.{Moved}
@@ -71,20 +71,20 @@ date_of_undated image room bytes accepts new none_dated fits =
 module _ (image before after room left : List ℕ) (first second : Moved) (bytes : Bytes image) (is_done : number first ≡ number_done)
     (fits : length image ≤ length room) where
   pub date_then_undate : Ends (dating image before) first after → Ends (undating (wrote first after) room) second left → WrittenBack image room second left
-  date_then_undate there back-again =
+  date_then_undate there back_again =
       let d : number (dating image before).answer ≡ number_done = ap number (sym there.answers) ∙ is_done in
       let w : wrote first after ≡ dated_image image = rw (there.answers, there.leaves) (wrote_moved onward image before d) in
       subst (λ (o : Outcome). Ends o second left)
       (ap (λ (i : List ℕ). undating i room) w
       ∙ undate_of_dated image room bytes (took_accepted onward image before d) (date_took image before d) fits)
-      back-again
+      back_again
 
   pub undate_then_date : Ends (undating image before) first after → Ends (dating (wrote first after) room) second left → WrittenBack image room second left
-  undate_then_date there back-again =
+  undate_then_date there back_again =
       let d : number (undating image before).answer ≡ number_done = ap number (sym there.answers) ∙ is_done in
       let w : wrote first after ≡ undated_image image = rw (there.answers, there.leaves) (wrote_moved back image before d) in
       let took = undate_took image before d in
       subst (λ (o : Outcome). Ends o second left)
       (ap (λ (i : List ℕ). dating i room) w
       ∙ date_of_undated image room bytes (took_accepted back image before d) took.0 took.1 fits)
-      back-again
+      back_again

@@ -29,7 +29,7 @@ use Rattle.table.proofs.Reading.{accepted_located}
 use Rattle.dates.specs.Forms.{entries_of, number_bytes, always, moved_image, is_always, first_dated_of, first_dated}
 use Rattle.dates.proofs.Blocks.{in_block}
 use Rattle.dates.proofs.Placed.{Placed, placed}
-use Rattle.dates.proofs.Parts.{moved, grown, moved_length, moved_trailer_lem, first_moved, second_moved, alphabet_byte, entry_byte, year_byte, later_byte, trailer_kept, mark_moved, first_distance, second_distance, later_distance}
+use Rattle.dates.proofs.Parts.{grown, moved_length, moved_trailer_lem, first_moved, second_moved, alphabet_byte, entry_byte, year_byte, later_byte, trailer_kept, mark_moved, first_distance, second_distance, later_distance}
 use Rattle.dates.proofs.Same.{SameRecords, in_alphabet, right_records, same_table}
 
 -- ---- The two forms

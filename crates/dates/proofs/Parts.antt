@@ -218,7 +218,7 @@ module _ (image : List ℕ) (accepts : verdict_of image ≡ Accepted) (years : L
   -- a number of the trailer is read as it was written
   number_read : (at n : ℕ) → get_or d at 0 ≡ n % 256 → get_or d (at + 1) 0 ≡ n / 256 → number_at moved (trailer_at moved + at) ≡ n
   unfolding number_at
-  number_read at n is-low is-high =
+  number_read at n is_low is_high =
       let low = trailer_byte at in
       let high = trailer_byte (at + 1) in
       let whole = mod-add-div n 256 in

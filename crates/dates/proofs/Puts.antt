@@ -54,7 +54,7 @@ pub entry_put : (years image : List ℕ) (entries : Section) → Lie image entri
     → o ≡ sets m next years
     → o ≡ sets before at (flatten (list_of (moved_entry years image entries) (k + 1)))
 unfolding moved_entry
-entry_put years image entries lie k there before l m o at to next part is-part is-to first second is-next third =
+entry_put years image entries lie k there before l m o at to next part is_part is_to first second is_next third =
     let blocks : List ℕ = flatten (list_of (moved_entry years image entries) k) in
     let long : length blocks ≡ (entry_size + length years) * k =
     blocks_length (moved_entry years image entries) (entry_size + length years) 0 k (λ j a b. entry_length years image entries lie j (omega arith)) in
@@ -67,7 +67,7 @@ entry_put years image entries lie k there before l m o at to next part is-part i
     ∙ ap (λ (n : ℕ). blocks ++ moved_entry years image entries n) (omega arith) in
     two
     ∙ ap (λ (r : List ℕ). sets before at r)
-    (append_assoc blocks part years ∙ ap (λ (p : List ℕ). blocks ++ (p ++ years)) is-part ∙ sym more)
+    (append_assoc blocks part years ∙ ap (λ (p : List ℕ). blocks ++ (p ++ years)) is_part ∙ sym more)
 
 -- two numbers, a part and a mark
 pub trailer_put : (at alphabet : ℕ) (image : List ℕ) (mark : ℕ) (before a b c : List ℕ) (p q r : ℕ) (part : List ℕ)
@@ -80,7 +80,7 @@ pub trailer_put : (at alphabet : ℕ) (image : List ℕ) (mark : ℕ) (before a 
     → r ≡ q + length part
     → Wrote before at (trailer_bytes at alphabet image mark) (set c r mark)
 unfolding trailer_bytes
-trailer_put at alphabet image mark before a b c p q r part is-part first is-p second is-q third is_r =
+trailer_put at alphabet image mark before a b c p q r part is_part first is_p second is_q third is_r =
     let one = number_long at in
     let two = number_long (at - alphabet) in
     let both = length-append (number_bytes at) (number_bytes (at - alphabet)) in
@@ -88,4 +88,4 @@ trailer_put at alphabet image mark before a b c p q r part is-part first is-p se
     let x = put_then before a b at (number_bytes at) (number_bytes (at - alphabet)) first.leaves second.leaves (omega arith) in
     let y = put_then before b c at (number_bytes at ++ number_bytes (at - alphabet)) part x third.leaves (omega arith) in
     let z = put_then before c (set c r mark) at (number_bytes at ++ number_bytes (at - alphabet) ++ part) (mark ∷ []) y refl (omega arith) in
-    record { leaves = z ∙ ap (λ (s : List ℕ). sets before at (number_bytes at ++ number_bytes (at - alphabet) ++ s ++ mark ∷ [])) is-part }
+    record { leaves = z ∙ ap (λ (s : List ℕ). sets before at (number_bytes at ++ number_bytes (at - alphabet) ++ s ++ mark ∷ [])) is_part }

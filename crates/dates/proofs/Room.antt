@@ -82,7 +82,7 @@ pub image_put : (image years : List ℕ) (mark : ℕ) (s : Sections) → Accepts
     → Wrote c r (trailer_bytes r s.contractions.start image mark) d
     → Wrote before 0 (moved_image years mark image) d
 unfolding moved_image moved_trailer trailer_bytes
-image_put image years mark s accepts few before a b c d p q r first is-p second is-q third is_r fourth =
+image_put image years mark s accepts few before a b c d p q r first is_p second is_q third is_r fourth =
     let room = roomy image years mark s accepts few in
     let alphabet : List ℕ = take s.contractions.start image in
     let entries : List ℕ = moved_entries years image s.contractions in
@@ -92,7 +92,7 @@ image_put image years mark s accepts few before a b c d p q r first is-p second 
     let l₂ = room.others_long in
     let n₁ = length-append alphabet entries in
     let n₂ = length-append (alphabet ++ entries) others_part in
-    let x = put_then before a b 0 alphabet entries first.leaves second.leaves is-p in
+    let x = put_then before a b 0 alphabet entries first.leaves second.leaves is_p in
     let y = put_then before b c 0 (alphabet ++ entries) others_part x third.leaves (omega arith) in
     let z = put_then before c d 0 (alphabet ++ entries ++ others_part) (trailer_bytes r s.contractions.start image mark) y fourth.leaves (omega arith) in
     let m₀ : r ≡ moved_distance years image 0 = let h = room.first in omega arith in

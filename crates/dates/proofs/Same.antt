@@ -150,13 +150,13 @@ module _ {image : List ℕ} {s : Sections} {other : List ℕ} {t : Sections} (sa
 
     part_same : (a b : Section) (k j n : ℕ) → offset a k + j + n ≤ length image → offset b k + j + n ≤ length other
         → ((i : ℕ) → i < n → record_byte other b k (j + i) ≡ record_byte image a k (j + i)) → record_part other b k j n ≡ record_part image a k j n
-    part_same a b k j n inside inside-other bytes =
+    part_same a b k j n inside inside_other bytes =
         let m = part_long image a k j n inside in
-        let m-other = part_long other b k j n inside-other in
-        ext_get_or 0 (record_part other b k j n) (record_part image a k j n) (m-other ∙ sym m)
+        let m_other = part_long other b k j n inside_other in
+        ext_get_or 0 (record_part other b k j n) (record_part image a k j n) (m_other ∙ sym m)
         (λ i l.
-        let u : i < n = rw m-other at l in
-        part_at other b k j n inside-other i 0 u ∙ bytes i u ∙ sym (part_at image a k j n inside i 0 u))
+        let u : i < n = rw m_other at l in
+        part_at other b k j n inside_other i 0 u ∙ bytes i u ∙ sym (part_at image a k j n inside i 0 u))
 
     string_same : (k : ℕ) → k < s.contractions.records
         → record_part other t.contractions k string_byte (record_byte other t.contractions k length_byte)
@@ -166,9 +166,9 @@ module _ {image : List ℕ} {s : Sections} {other : List ℕ} {t : Sections} (sa
         let len = same.entry_bytes k length_byte l (omega arith) in
         let short = (right contractions k l).length_right.high in
         let inside = string_inside image s laid right k l in
-        let inside-other = string_inside other t laid_other right_other k (rw same.entries l) in
+        let inside_other = string_inside other t laid_other right_other k (rw same.entries l) in
         ap (λ (n : ℕ). record_part other t.contractions k string_byte n) len
-        ∙ part_same s.contractions t.contractions k string_byte (string_length image s k) inside (rw len at inside-other)
+        ∙ part_same s.contractions t.contractions k string_byte (string_length image s k) inside (rw len at inside_other)
         (λ i u. same.entry_bytes k (string_byte + i) l (omega arith))
 
     signs_same : (k : ℕ) → k < s.contractions.records

@@ -6,7 +6,7 @@ use pages::Sheet;
 
 // A line and a column of a text or a file, both from 1. A byte that goes on with a character is no
 // column of its own.
-#[derive(Drop)]
+#[derive(Clone, Copy)]
 struct Position {
     line: usize,
     column: usize,
@@ -42,20 +42,20 @@ pub fn front(bytes: &[u8], n: usize) -> &[u8] {
     &bytes[..end]
 }
 
-pub fn say_refused(number: u8, place: usize) {
-    say(b"press: refused ");
-    say_number(number as usize);
-    say(b" at ");
-    say_number(place);
+pub fn say_refused(rt: &HostRuntime, number: u8, place: usize) {
+    say(rt, b"press: refused ");
+    say_number(rt, number as usize);
+    say(rt, b" at ");
+    say_number(rt, place);
 }
 
-pub fn say_position(bytes: &[u8], place: usize) {
+pub fn say_position(rt: &HostRuntime, bytes: &[u8], place: usize) {
     let position = position_after(front(bytes, place));
-    say(b" (line ");
-    say_number(position.line);
-    say(b", column ");
-    say_number(position.column);
-    say(b")");
+    say(rt, b" (line ");
+    say_number(rt, position.line);
+    say(rt, b", column ");
+    say_number(rt, position.column);
+    say(rt, b")");
 }
 
 // The bytes that a character of UTF-8 has, by its first; 1 where it is none.
@@ -72,26 +72,26 @@ fn width_of(byte: u8) -> usize {
     1
 }
 
-fn say_quoted(bytes: &[u8]) {
-    say(b"'");
-    say(bytes);
-    say(b"'");
+fn say_quoted(rt: &HostRuntime, bytes: &[u8]) {
+    say(rt, b"'");
+    say(rt, bytes);
+    say(rt, b"'");
 }
 
-fn say_byte(byte: u8) {
+fn say_byte(rt: &HostRuntime, byte: u8) {
     if byte == 9 {
-        say(b"a tab");
+        say(rt, b"a tab");
     } else if byte == 10 {
-        say(b"a line feed");
+        say(rt, b"a line feed");
     } else if byte == 12 {
-        say(b"a form feed");
+        say(rt, b"a form feed");
     } else if byte == 13 {
-        say(b"a carriage return");
+        say(rt, b"a carriage return");
     } else if byte == 32 {
-        say(b"a blank");
+        say(rt, b"a blank");
     } else {
-        say(b"the byte ");
-        say_number(byte as usize);
+        say(rt, b"the byte ");
+        say_number(rt, byte as usize);
     }
 }
 
@@ -104,16 +104,16 @@ fn goes_on(character: &[u8], i: usize) -> bool {
 }
 
 // A character of UTF-8, or the byte that begins as one and isn't.
-fn say_whole(character: &[u8], byte: u8) {
+fn say_whole(rt: &HostRuntime, character: &[u8], byte: u8) {
     if goes_on(character, 1) & goes_on(character, 2) & goes_on(character, 3) {
-        say_quoted(character);
+        say_quoted(rt, character);
     } else {
-        say_byte(byte);
+        say_byte(rt, byte);
     }
 }
 
 // The character at a place, whole where it has several bytes.
-pub fn say_character(bytes: &[u8], place: usize) {
+pub fn say_character(rt: &HostRuntime, bytes: &[u8], place: usize) {
     if bytes.len() <= place {
         return;
     }
@@ -121,88 +121,116 @@ pub fn say_character(bytes: &[u8], place: usize) {
     let width = width_of(byte);
     let left = bytes.len() - place;
     if (width == 1) & ((byte < 33) | (126 < byte)) {
-        say_byte(byte);
+        say_byte(rt, byte);
     } else if width <= left {
         let end = place + width;
-        say_whole(&bytes[place..end], byte);
+        say_whole(rt, &bytes[place..end], byte);
     } else {
-        say_byte(byte);
+        say_byte(rt, byte);
     }
 }
 
 // 5: the same of every call.
-fn sizes_wrong(sheet: Sheet) -> i32 {
-    say(b": a width of ");
-    say_number(sheet.width);
-    say(b" and a page of ");
-    say_number(sheet.length);
-    say(b"; the width is 8 to 60 cells, and the page 2 to 40 lines\n");
+fn sizes_wrong(rt: &HostRuntime, sheet: Sheet) -> i32 {
+    say(rt, b": a width of ");
+    say_number(rt, sheet.width);
+    say(rt, b" and a page of ");
+    say_number(rt, sheet.length);
+    say(
+        rt,
+        b"; the width is 8 to 60 cells, and the page 2 to 40 lines\n",
+    );
     1
 }
 
-fn room_short() -> i32 {
-    say(b": so many bytes of output are more than this program has room for\n");
+fn room_short(rt: &HostRuntime) -> i32 {
+    say(
+        rt,
+        b": so many bytes of output are more than this program has room for\n",
+    );
     1
 }
 
 // The refusals of a text: 5, 6, 7, 15 and 8.
-pub fn refused_text(number: u8, place: usize, text: &[u8], following: u8, sheet: Sheet) -> i32 {
-    say_refused(number, place);
+pub fn refused_text(
+    rt: &HostRuntime,
+    number: u8,
+    place: usize,
+    text: &[u8],
+    following: u8,
+    sheet: Sheet,
+) -> i32 {
+    say_refused(rt, number, place);
     if number == 5 {
-        return sizes_wrong(sheet);
+        return sizes_wrong(rt, sheet);
     }
     if number == 6 {
-        say_position(text, place);
-        say(b": the text has more than 16,384 bytes; divide it\n");
+        say_position(rt, text, place);
+        say(rt, b": the text has more than 16,384 bytes; divide it\n");
         return 1;
     }
     if number == 7 {
-        say_position(text, place);
-        say(b": no letter for ");
-        say_character(text, place);
-        say(b"\n");
+        say_position(rt, text, place);
+        say(rt, b": no letter for ");
+        say_character(rt, text, place);
+        say(rt, b"\n");
         return 1;
     }
     if number == 15 {
-        say(b": no letter for what follows the text, ");
-        say_character(&[following], 0);
-        say(b"\n");
+        say(rt, b": no letter for what follows the text, ");
+        say_character(rt, &[following], 0);
+        say(rt, b"\n");
         return 1;
     }
-    room_short()
+    room_short(rt)
 }
 
 // Why no good file goes on with a character.
-fn say_why(byte: u8) {
+fn say_why(rt: &HostRuntime, byte: u8) {
     if byte == 10 {
-        say(b": the line ends in a blank, or the page has its lines already\n");
+        say(
+            rt,
+            b": the line ends in a blank, or the page has its lines already\n",
+        );
     } else if byte == 12 {
-        say(b": the page has no line, or its last line has no line feed\n");
+        say(
+            rt,
+            b": the page has no line, or its last line has no line feed\n",
+        );
     } else if byte == 32 {
-        say(b": the line has no room for a cell after it, or the page has its lines already\n");
+        say(
+            rt,
+            b": the line has no room for a cell after it, or the page has its lines already\n",
+        );
     } else if (32 < byte) & (byte < 96) {
-        say(b": the line has its cells already, or the page its lines\n");
+        say(
+            rt,
+            b": the line has its cells already, or the page its lines\n",
+        );
     } else {
-        say(b", which has no cell\n");
+        say(rt, b", which has no cell\n");
     }
 }
 
 // The refusals of an embosser file: 5, 16 and 8.
-pub fn refused_file(number: u8, place: usize, file: &[u8], sheet: Sheet) -> i32 {
-    say_refused(number, place);
+pub fn refused_file(rt: &HostRuntime, number: u8, place: usize, file: &[u8], sheet: Sheet) -> i32 {
+    say_refused(rt, number, place);
     if number == 5 {
-        return sizes_wrong(sheet);
+        return sizes_wrong(rt, sheet);
     }
     if number == 16 {
-        say_position(file, place);
+        say_position(rt, file, place);
         if place < file.len() {
-            say(b": no good file on this sheet goes on with ");
-            say_character(file, place);
-            say_why(file[place]);
+            say(rt, b": no good file on this sheet goes on with ");
+            say_character(rt, file, place);
+            say_why(rt, file[place]);
         } else {
-            say(b": the file stops short; a page ends in a line feed and a form feed\n");
+            say(
+                rt,
+                b": the file stops short; a page ends in a line feed and a form feed\n",
+            );
         }
         return 1;
     }
-    room_short()
+    room_short(rt)
 }

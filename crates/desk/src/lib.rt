@@ -4,6 +4,8 @@
 // that what was read lies within the bytes lent; the runs of the program press are compared
 // (tests/press).
 
+#![tactic(auto)]
+
 mod explaining;
 mod keeping;
 mod reading;
@@ -13,5 +15,5 @@ mod showing;
 pub use explaining::{front, refused_file, refused_text, say_character, say_position, say_refused};
 pub use keeping::{keep, print};
 pub use reading::{read_argument, read_text};
-pub use saying::{failed, say, say_argument, say_number};
+pub use saying::{argument, failed, printed, say, say_argument, say_number};
 pub use showing::show;

@@ -5,7 +5,7 @@ ghost use Rattle.std.specs.Prelude.{◌+◌, ◌*◌, ◌<◌, ◌≤◌, length
 ghost use Rattle.io.specs.Counts.{IsPrefixLen};
 
 use console::write_whole;
-use libc::STDOUT_FILENO;
+use std::io::Error;
 
 // One output byte at the place `at`: a cell as U+2800 and the cell in UTF-8, a line's end as a line
 // feed. Answers the place after it.
@@ -37,13 +37,13 @@ fn put_bytes(bytes: &[u8], out: &mut [u8]) -> usize
     at
 }
 
-// At most 1,024 output bytes are shown, and whether they went through.
-fn show_some(bytes: &[u8]) -> bool
+// At most 1,024 output bytes are shown.
+fn show_some(rt: &HostRuntime, bytes: &[u8]) -> Result<(), Error>
     requires { length bytes.now ≤ 1024 }
 {
     let mut shown = [0u8; 3072];
     let length = put_bytes(bytes, &mut shown);
-    write_whole(STDOUT_FILENO, &shown[..length])
+    write_whole(&mut rt.stdout(), &shown[..length])
 }
 
 // How many of the bytes that are left are shown at once.
@@ -55,44 +55,55 @@ fn some_of(left: usize) -> usize
 }
 
 // The lines of a page.
-fn show_lines(bytes: &[u8]) -> bool {
+fn show_lines(rt: &HostRuntime, bytes: &[u8]) -> Result<(), Error> {
     let mut from = 0;
     while from < bytes.len() {
         let end = from + some_of(bytes.len() - from);
-        if !show_some(&bytes[from..end]) {
-            return false;
-        }
+        show_some(rt, &bytes[from..end])?;
         from = end;
     }
-    true
+    Ok(())
 }
 
 // The rule before a page.
-fn show_rule(page: usize) -> bool {
+fn show_rule(rt: &HostRuntime, page: usize) -> Result<(), Error> {
     let mut digits = [0u8; 20];
     let length = io::decimal(page as u64, &mut digits);
-    write_whole(STDOUT_FILENO, b"--- page ")
-        && write_whole(STDOUT_FILENO, &digits[..length])
-        && write_whole(STDOUT_FILENO, b" ---\n")
+    write_whole(&mut rt.stdout(), b"--- page ")?;
+    write_whole(&mut rt.stdout(), &digits[..length])?;
+    write_whole(&mut rt.stdout(), b" ---\n")
 }
 
-// The pages of a layout, and whether they went through.
-pub fn show(layout: &[u8]) -> bool {
+// Where the page that begins at `from` ends: at the first 65 from there on, or where all ends.
+fn page_end(layout: &[u8], from: usize) -> usize
+    requires { from ≤ length layout.now }
+    ensures { (from ≤ result) × (result ≤ length layout.now) }
+{
+    let mut end = from;
+    while end < layout.len() {
+        if layout[end] == 65 {
+            return end;
+        }
+        end += 1;
+    }
+    end
+}
+
+// The pages of a layout, and why they didn't go through where they didn't.
+pub fn show(rt: &HostRuntime, layout: &[u8]) -> Result<(), Error> {
     let mut page: usize = 1;
     let mut from = 0;
     while from < layout.len() {
-        let end = bytes::scan::find(layout, from, layout.len(), 65);
-        if (page != 1) && !show_rule(page) {
-            return false;
+        let end = page_end(layout, from);
+        if page != 1 {
+            show_rule(rt, page)?;
         }
-        if !show_lines(&layout[from..end]) {
-            return false;
-        }
+        show_lines(rt, &layout[from..end])?;
         if end == layout.len() {
-            return true;
+            return Ok(());
         }
         page += 1;
         from = end + 1;
     }
-    true
+    Ok(())
 }

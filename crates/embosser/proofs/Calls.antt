@@ -77,7 +77,7 @@ module _ (kind : Kind) (sheet : Sheet) (bytes before : List ℕ) (answer : Filed
     -- the other call takes what was written, and gives the bytes back at the front of what it is lent
     there_and_back : (room left : List ℕ) (second : Filed) → length bytes ≤ length room → Files (other kind) sheet (wrote answer after) room second left
         → (second ≡ (done room bytes).answer) × (left ≡ (done room bytes).output)
-    there_and_back room left second fits back-again =
+    there_and_back room left second fits back_again =
         let right = (Laws.done_good kind sheet bytes before outcome_done).0 in
         let good : Good (other kind) sheet (turned_bytes kind bytes) = (same_pages kind sheet call_good).0 in
         let same = turned_and_back kind sheet call_good in
@@ -85,18 +85,18 @@ module _ (kind : Kind) (sheet : Sheet) (bytes before : List ℕ) (answer : Filed
         ap (λ (b : List ℕ). filing (other kind) sheet b room) wrote_turned
         ∙ Laws.good_done (other kind) sheet (turned_bytes kind bytes) room right good (rw (turned_length kind bytes) fits)
         ∙ ap (done room) same in
-        (back-again.answers ∙ ap (λ (o : Outcome). o.answer) again, back-again.leaves ∙ ap (λ (o : Outcome). o.output) again)
+        (back_again.answers ∙ ap (λ (o : Outcome). o.answer) again, back_again.leaves ∙ ap (λ (o : Outcome). o.output) again)
 
 module _ (sheet : Sheet) (bytes before after room left : List ℕ) (first second : Filed) (is_done : number first ≡ number_done)
     (fits : length bytes ≤ length room) where
   -- reading what was written gives the same bytes
   pub write_then_read : Files Layout sheet bytes before first after → Files File sheet (wrote first after) room second left → GivenBack bytes room second left
-  write_then_read there back-again =
-      let e = there_and_back Layout sheet bytes before first after there is_done room left second fits back-again in
+  write_then_read there back_again =
+      let e = there_and_back Layout sheet bytes before first after there is_done room left second fits back_again in
       record { answers = e.0; leaves = e.1 }
 
   -- writing what was read gives the same file
   pub read_then_write : Files File sheet bytes before first after → Files Layout sheet (wrote first after) room second left → GivenBack bytes room second left
-  read_then_write there back-again =
-      let e = there_and_back File sheet bytes before first after there is_done room left second fits back-again in
+  read_then_write there back_again =
+      let e = there_and_back File sheet bytes before first after there is_done room left second fits back_again in
       record { answers = e.0; leaves = e.1 }

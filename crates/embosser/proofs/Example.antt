@@ -2,7 +2,7 @@
 -- each kind with their places.
 use Prim.Native.Nat.{ℕ}
 use mathlib.Core.List.{List, [], ◌∷◌, ◌++◌, map}
-use mathlib.Core.Option.{Option, none, some}
+use mathlib.Core.Option.{none, some}
 use mathlib.Core.Path.{◌≡◌, refl}
 use lib.ListN.{length, drop, replicate}
 use Rattle.table.specs.Example.{table, ascii}

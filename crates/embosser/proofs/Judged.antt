@@ -17,7 +17,7 @@ use Rattle.table.proofs.Tests.{Tells, tells_and, tells_eq, fails_law}
 use Rattle.pages.specs.Numbers.{page_mark}
 use Rattle.pages.specs.Pages.{bytes_of_pages}
 use Rattle.pages.specs.declared.Sheet.{Sheet}
-use Rattle.embosser.specs.Chart.{character_of, place_in, characters, written_as, stands_for}
+use Rattle.embosser.specs.Chart.{written_as, stands_for}
 use Rattle.embosser.specs.Judging.{start, at_start, stepped, wrong_from, wrong_at}
 use Rattle.embosser.specs.Good.{bytes_as, Good, Continues, WrongAt, at_byte, stops_short}
 use Rattle.embosser.specs.declared.Kind.{Kind}
@@ -142,18 +142,18 @@ module _ (kind : Kind) (sheet : Sheet) where
   -- ---- A wrong file or layout is wrong in one place
 
   pub one_place : {bytes : List ℕ} {p q : ℕ} → WrongAt kind sheet bytes p → WrongAt kind sheet bytes q → p ≡ q
-  one_place {bytes} (at_byte {at = p} l c no_more) (at_byte {at = q} m d no-more') = go (dec_lt p q) (dec_lt q p)
+  one_place {bytes} (at_byte {at = p} l c no_more) (at_byte {at = q} m d no_more') = go (dec_lt p q) (dec_lt q p)
     where
       earlier : (a b : ℕ) → a < b → Continues kind sheet (take b bytes) → Continues kind sheet (take (a + 1) bytes)
       earlier a b h x = subst (Continues kind sheet) (take-take (a + 1) b bytes (omega arith)) (continues_front (a + 1) (take b bytes) x)
 
       go : Dec (p < q) → Dec (q < p) → p ≡ q
       go (yes h) e = absurd (no_more (earlier p q h d))
-      go (no h) (yes g) = absurd (no-more' (earlier q p g c))
+      go (no h) (yes g) = absurd (no_more' (earlier q p g c))
       go (no h) (no g) = omega arith
   one_place {bytes} (at_byte {at = p} l c no_more) (stops_short d not_good) = absurd (no_more (continues_front (p + 1) bytes d))
   one_place {bytes} (stops_short c not_good) (at_byte {at = q} m d no_more) = absurd (no_more (continues_front (q + 1) bytes c))
-  one_place (stops_short c not_good) (stops_short d not-good') = refl
+  one_place (stops_short c not_good) (stops_short d not_good') = refl
 
   -- a good one is wrong nowhere
   pub good_not_wrong : {bytes : List ℕ} {p : ℕ} → Good kind sheet bytes → WrongAt kind sheet bytes p → ⊥

@@ -6,7 +6,7 @@ use mathlib.Core.Bool.{Bool, true, false}
 use mathlib.Core.List.{List}
 use mathlib.Core.Logic.{◌↔◌}
 use mathlib.Core.Option.{Option, none, some}
-use mathlib.Core.Path.{◌≡◌, refl, sym, ◌∙◌, ap, subst}
+use mathlib.Core.Path.{◌≡◌, refl, sym, ap, subst}
 use native.Mathlib.Decide.{dec_lt}
 use native.Mathlib.Omega.{arith}
 use lib.ListN.{length, drop}
@@ -19,12 +19,11 @@ use Rattle.table.specs.declared.Refusal.TheVariants.{Size, Room, File as WrongFi
 use Rattle.table.specs.declared.Verdict.TheVariants.{Accepted}
 use Rattle.table.proofs.FirstLine.{OneLine}
 use Rattle.table.proofs.FirstLine as First
-use Rattle.pages.specs.Refusals.{SizesWrong}
 use Rattle.pages.specs.Volume.{sheet_right, sheet_verdict}
 use Rattle.pages.specs.declared.Sheet.{Sheet}
 use Rattle.pages.proofs.Sizes.{sizes_wrong, sizes_accepted, sizes_refused, sizes_not_wrong, sizes_of_accepted}
 use Rattle.embosser.specs.Judging.{wrong_at}
-use Rattle.embosser.specs.Good.{Good, WrongAt}
+use Rattle.embosser.specs.Good.{Good}
 use Rattle.embosser.specs.Filing.{number, place, written, Outcome, refused, done, turned_bytes, filing}
 use Rattle.embosser.specs.Refusals.{Line, line_5, line_16, line_8}
 use Rattle.embosser.specs.declared.Kind.{Kind}

@@ -1,15 +1,14 @@
 -- Which output bytes a run goes through from between two pages to between two pages: just those of right pages. And from wherever a run has come, some bytes
 -- lead between two pages: so what it has passed can be continued. The idea: a spot knows of the line and the page that are being read what a step asks for.
 use Prim.Native.Nat.{ℕ, suc, ◌+◌, ◌≤◌, ◌<◌}
-use mathlib.Core.Bool.{Bool, true, false, false≢true, cond}
+use mathlib.Core.Bool.{Bool, true, false, false≢true}
 use mathlib.Core.List.{List, [], ◌∷◌, ◌++◌, append_assoc}
 use mathlib.Core.Path.{◌≡◌, refl, sym, ◌∙◌, ap, subst}
 use native.Mathlib.Decide.{dec_lt}
 use native.Mathlib.Omega.{arith}
-use lib.Dec.{eqb}
-use lib.ListN.{length, get_or, length-append}
+use lib.ListN.{length, length-append}
 use lib.Seq.{get_or-append_seam}
-use borrow.Author.Tests.{eq-eqb, ne_eqb, eqb-true}
+use borrow.Author.Tests.{eq-eqb, ne_eqb}
 use Rattle.table.specs.Numbers.{blank_cell}
 use Rattle.table.specs.Lists.{All, empty, ◌and◌}
 use Rattle.table.proofs.Lists.{all_append}
@@ -29,7 +28,7 @@ module _ (sheet : Sheet) where
 
   pub data Runs : Spot → List ℕ → Spot → Type 0 where
     ended : {s : Spot} → Runs s [] s
-    further : {s t u : Spot} {byte : ℕ} {bytes : List ℕ} → Steps sheet s byte t → Runs t bytes u → Runs s (byte ∷ bytes) u
+    further : {s : Spot} {byte : ℕ} {t u : Spot} {bytes : List ℕ} → Steps sheet s byte t → Runs t bytes u → Runs s (byte ∷ bytes) u
 
   pub runs_on : {s t u : Spot} {xs ys : List ℕ} → Runs s xs t → Runs t ys u → Runs s (xs ++ ys) u
   runs_on ended r = r
@@ -67,7 +66,7 @@ module _ (sheet : Sheet) where
   -- the room that a cell asks for is there where the line has so many cells left, and doesn't end in a blank
   room_for : (c : ℕ) (cells : List ℕ) → ((front : Line) → c ∷ cells ≡ front ++ blank_cell ∷ [] → ⊥) → cells_from c ≤ suc (length cells)
   unfolding cells_from
-  room_for c cells no-trailing = go (decided_by (tells_eq c blank_cell)) cells no-trailing
+  room_for c cells no_trailing = go (decided_by (tells_eq c blank_cell)) cells no_trailing
     where
       go : Dec (c ≡ blank_cell) → (cells : List ℕ) → ((front : Line) → c ∷ cells ≡ front ++ blank_cell ∷ [] → ⊥) → cells_from c ≤ suc (length cells)
       go (no d) cells h = rw (ne_eqb c blank_cell d) (omega arith)
@@ -77,13 +76,13 @@ module _ (sheet : Sheet) where
   -- the cells that are left of a line, and its end
   line_runs : (s : Spot) (cells : Line) → s.line < sheet.length → s.column + length cells ≤ sheet.width → All IsCell cells → (cells ≡ [] → s.blank ≡ false)
       → ((front : Line) → cells ≡ front ++ blank_cell ∷ [] → ⊥) → Runs s (cells ++ line_mark ∷ []) (after_line s)
-  line_runs s [] room fits empty not_blank no-trailing = further (line_end refl room (not_blank refl)) ended
-  line_runs s (c ∷ cells) room fits (h and hs) not_blank no-trailing =
-      let here = room_for c cells no-trailing in
+  line_runs s [] room fits empty not_blank no_trailing = further (line_end refl room (not_blank refl)) ended
+  line_runs s (c ∷ cells) room fits (h and hs) not_blank no_trailing =
+      let here = room_for c cells no_trailing in
       let wide : s.column + cells_from c ≤ sheet.width = omega arith in
       further {s = s} (cell h room wide)
-      (line_runs (after_cell s c) cells room (omega arith) hs (λ e. ne_eqb c blank_cell (λ z. no-trailing [] (ap (λ (x : ℕ). x ∷ cells) z ∙ ap (λ (xs : Line). blank_cell ∷ xs) e)))
-      (λ front e. no-trailing (c ∷ front) (ap (λ (xs : Line). c ∷ xs) e)))
+      (line_runs (after_cell s c) cells room (omega arith) hs (λ e. ne_eqb c blank_cell (λ z. no_trailing [] (ap (λ (x : ℕ). x ∷ cells) z ∙ ap (λ (xs : Line). blank_cell ∷ xs) e)))
+      (λ front e. no_trailing (c ∷ front) (ap (λ (xs : Line). c ∷ xs) e)))
 
   -- between two lines of a page, of which so many have ended
   abbrev below : ℕ → Spot
@@ -198,8 +197,8 @@ module _ (sheet : Sheet) where
       rw (bytes_of_lines_lem lines (line ∷ []), is) (append_assoc (bytes_of_lines lines) (line ++ line_mark ∷ []) bytes
       ∙ ap (λ (xs : List ℕ). bytes_of_lines lines ++ xs) (append_assoc line (line_mark ∷ []) bytes)) in
       subst Made joined (made_from more done (lines ++ line ∷ []) [] (standing_line st room not_blank))
-  made_from (further {byte} {bytes} (page_end is no-column some) more) done lines line st =
-      let no_cells : line ≡ [] = nil_of_length line (sym st.column ∙ no-column) in
+  made_from (further {byte} {bytes} (page_end is no_column some) more) done lines line st =
+      let no_cells : line ≡ [] = nil_of_length line (sym st.column ∙ no_column) in
       let rest = made_from more done [] [] standing_start in
       let c = st.count in
       let page : PageRight sheet lines = record { least = omega arith; most = st.most; lines = st.rights } in

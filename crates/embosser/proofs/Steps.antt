@@ -106,7 +106,7 @@ module _ (sheet : Sheet) where
   passed : {test : Bool} (t : Spot) → test ≡ true → onwards test t ≡ On t
   passed t e = rw e
 
-  steps_is : {s t : Spot} {byte : ℕ} → Steps s byte t → stepped sheet s byte ≡ On t
+  steps_is : {s : Spot} {byte : ℕ} {t : Spot} → Steps s byte t → stepped sheet s byte ≡ On t
   steps_is {s} {byte} (cell c l w) = stepped_cell sheet s byte c ∙ passed (after_cell s byte) ((tells_cell s byte).1 (l, w))
   steps_is {s} {byte} (line_end is l w) =
       ap (stepped sheet s) is ∙ stepped_line sheet s ∙ passed (after_line s) ((tells_line s).1 (l, λ h. true≢false (sym h ∙ w)))
@@ -120,7 +120,7 @@ module _ (sheet : Sheet) where
   one_step a b = let x = steps_is a in let y = steps_is b in cc
 
   -- a byte that leads on is a cell, 64 or 65
-  pub step_marks : {s t : Spot} {byte : ℕ} → Steps s byte t → byte ≤ page_mark
+  pub step_marks : {s : Spot} {byte : ℕ} {t : Spot} → Steps s byte t → byte ≤ page_mark
   step_marks (cell c l w) = omega arith
   step_marks (line_end b l w) = omega arith
   step_marks (page_end b c l) = omega arith
@@ -135,7 +135,7 @@ module _ (sheet : Sheet) where
   pub start_fits : Fit start
   start_fits = record { line = omega arith; column = omega arith; blank = λ e. absurd (false≢true e); full = λ e. refl }
 
-  pub step_fits : {s t : Spot} {byte : ℕ} → Steps s byte t → Fit t
+  pub step_fits : {s : Spot} {byte : ℕ} {t : Spot} → Steps s byte t → Fit t
   unfolding cells_from
   step_fits {s} {byte} (cell h room fits) =
       let one = (cells_from_bounds byte).low in

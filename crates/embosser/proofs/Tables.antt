@@ -26,7 +26,7 @@ module _ {turn f : ℕ → ℕ} {other : ℕ} where
       record {
         size = length-set table at value ∙ so_far.size;
         passed = λ b l t. go b l t (ℕ_discrete b at);
-        left = λ b l t. get_or-set_other table at b value 0 (λ e. let its-turn : turn b ≡ n = ap turn e ∙ its in omega arith) ∙ so_far.left b l (omega arith);
+        left = λ b l t. get_or-set_other table at b value 0 (λ e. let its_turn : turn b ≡ n = ap turn e ∙ its in omega arith) ∙ so_far.left b l (omega arith);
       }
     where
       go : (b : ℕ) → b < 256 → turn b < n + 1 → Dec (b ≡ at) → get_or (set table at value) b 0 ≡ f b

@@ -3,12 +3,14 @@
 // said in specs/; here are the types that the definitions and the calls share. The calls themselves
 // are in files.
 
+#![tactic(auto)]
+
 mod answering;
 
 use table::Refusal;
 
 // The bytes that pages are written in: the output of `emboss`, or an embosser file.
-#[derive(Drop)]
+#[derive(Clone, Copy)]
 pub enum Kind {
     Layout,
     File,
@@ -16,7 +18,7 @@ pub enum Kind {
 
 // Where the judging stands: the cells of the line, whether the last of them is blank, and the lines
 // that have ended on the page.
-#[derive(Drop)]
+#[derive(Clone, Copy)]
 pub struct Spot {
     pub column: usize,
     pub blank: bool,
@@ -24,21 +26,21 @@ pub struct Spot {
 }
 
 // What a byte makes of a spot: the next one, or no good file or layout could go on so.
-#[derive(Drop)]
+#[derive(Clone, Copy)]
 pub enum Step {
     On(Spot),
     Wrong,
 }
 
 // What the judging finds: a wrong file or layout, and its place.
-#[derive(Drop)]
+#[derive(Clone, Copy)]
 pub enum Found {
     At(usize),
     Nothing,
 }
 
 // What writing or reading a file answers.
-#[derive(Drop)]
+#[derive(Clone, Copy)]
 pub enum Filed {
     Done { written: usize },
     Refused(Refusal),

@@ -5,8 +5,8 @@ ghost use Rattle.std.specs.Prelude.{[], ◌≡◌, ℕ, ◌+◌, ◌-◌, ◌≤
 ghost use Rattle.std.proofs.lemmas.List.Edits.{sets};
 ghost use Rattle.table.specs.Numbers.{padding};
 ghost use Rattle.table.specs.Sections.{bytes_from};
-ghost use Rattle.form.specs.Words.{row as row_in, string as stringIn};
-ghost use Rattle.form.specs.Fields.{fields_of, size_of, sizes_of, classed as classedIn, signs as signsIn, year as yearIn, years as yearsIn, tail as tailIn, read_field, read_fields};
+ghost use Rattle.form.specs.Words.{row as row_in, string as string_in};
+ghost use Rattle.form.specs.Fields.{fields_of, size_of, sizes_of, classed as classed_in, signs as signs_in, year as year_in, years as years_in, tail as tail_in, read_field, read_fields};
 ghost use Rattle.form.specs.declared.Field.TheVariants.{Symbol, Tail};
 ghost use Rattle.form.specs.inside.Steps.{value_read, ValueWithin};
 ghost use Rattle.fields.specs.inside.Steps.{step_read, StepWithin, ByteValue, value_step, with_value};
@@ -67,7 +67,7 @@ fn clear(rec: &mut [u8; 64], from: usize, to: usize)
 // A string: its length, its symbols, and 0 up to ten.
 fn string(line: &[u8], at: usize, rec: &mut [u8; 64], n: usize) -> Step
     requires { (at ≤ length line.now) × (n + 11 ≤ 64) }
-    ensures { (step_read line.now (bytes_from rec.new n 11) result ≡ stringIn (drop at line.now)) × StepWithin line.now result × (take n rec.new ≡ take n rec.old) }
+    ensures { (step_read line.now (bytes_from rec.new n 11) result ≡ string_in (drop at line.now)) × StepWithin line.now result × (take n rec.new ≡ take n rec.old) }
 {
     match symbols(line, at, 10, rec, n + 1) {
         Run::Not(e, i) => Step::Off(e, i),
@@ -89,7 +89,7 @@ fn string(line: &[u8], at: usize, rec: &mut [u8; 64], n: usize) -> Step
 // A class, and then a right context, which stands before it in the record.
 fn classed(line: &[u8], at: usize, rec: &mut [u8; 64], n: usize) -> Step
     requires { (at ≤ length line.now) × (n + 2 ≤ 64) }
-    ensures { (step_read line.now (bytes_from rec.new n 2) result ≡ classedIn (drop at line.now)) × StepWithin line.now result × (take n rec.new ≡ take n rec.old) }
+    ensures { (step_read line.now (bytes_from rec.new n 2) result ≡ classed_in (drop at line.now)) × StepWithin line.now result × (take n rec.new ≡ take n rec.old) }
 {
     size(rec);
     match number(line, at, 0, 255) {
@@ -111,7 +111,7 @@ fn classed(line: &[u8], at: usize, rec: &mut [u8; 64], n: usize) -> Step
 // Up to four signs, and 99 for each that is missing.
 fn signs(line: &[u8], at: usize, rec: &mut [u8; 64], n: usize) -> Step
     requires { (at ≤ length line.now) × (n + 4 ≤ 64) }
-    ensures { (step_read line.now (bytes_from rec.new n 4) result ≡ signsIn (drop at line.now)) × StepWithin line.now result × (take n rec.new ≡ take n rec.old) }
+    ensures { (step_read line.now (bytes_from rec.new n 4) result ≡ signs_in (drop at line.now)) × StepWithin line.now result × (take n rec.new ≡ take n rec.old) }
 {
     size(rec);
     rec[n] = 99;
@@ -142,7 +142,7 @@ fn signs(line: &[u8], at: usize, rec: &mut [u8; 64], n: usize) -> Step
 // A year after its word, or what is meant where the word isn't there.
 fn year(line: &[u8], at: usize, word: &[u8], unsaid: u16) -> Value
     requires { at ≤ length line.now }
-    ensures { (value_read line.now result ≡ yearIn word.now unsaid (drop at line.now)) × ValueWithin 65535 line.now result }
+    ensures { (value_read line.now result ≡ year_in word.now unsaid (drop at line.now)) × ValueWithin 65535 line.now result }
 {
     let i = gap_end(line, at);
     if is_word(line, i, word) {
@@ -155,7 +155,7 @@ fn year(line: &[u8], at: usize, word: &[u8], unsaid: u16) -> Value
 // The first year and the last.
 fn years(line: &[u8], at: usize, rec: &mut [u8; 64], n: usize) -> Step
     requires { (at ≤ length line.now) × (n + 4 ≤ 64) }
-    ensures { (step_read line.now (bytes_from rec.new n 4) result ≡ yearsIn (drop at line.now)) × StepWithin line.now result × (take n rec.new ≡ take n rec.old) }
+    ensures { (step_read line.now (bytes_from rec.new n 4) result ≡ years_in (drop at line.now)) × StepWithin line.now result × (take n rec.new ≡ take n rec.old) }
 {
     size(rec);
     match year(line, at, b"from", 0) {
@@ -176,7 +176,7 @@ fn years(line: &[u8], at: usize, rec: &mut [u8; 64], n: usize) -> Step
 // The colon and the signs, and in a dated table the years.
 fn tail(line: &[u8], at: usize, dated: bool, rec: &mut [u8; 64], n: usize) -> Step
     requires { (at ≤ length line.now) × (n + size_of (Tail dated) ≤ 64) }
-    ensures { (step_read line.now (bytes_from rec.new n (size_of (Tail dated))) result ≡ tailIn dated (drop at line.now)) × StepWithin line.now result × (take n rec.new ≡ take n rec.old) }
+    ensures { (step_read line.now (bytes_from rec.new n (size_of (Tail dated))) result ≡ tail_in dated (drop at line.now)) × StepWithin line.now result × (take n rec.new ≡ take n rec.old) }
 {
     if !is_word(line, at, b":") {
         return Step::Off(Expected::Colon, at);

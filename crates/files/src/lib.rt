@@ -2,6 +2,8 @@
 // byte, and any bytes, sizes and room get their answer. What each call means is said in specs/ of
 // embosser.
 
+#![tactic(auto)]
+
 mod charting;
 mod filing;
 mod judging;

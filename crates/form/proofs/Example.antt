@@ -1,14 +1,14 @@
 -- Examples, proved by computing: the paper's table with years as `show` writes it; a text as a person writes it, which makes the paper's table; texts that
 -- aren't of the form, each with its place, line and column; and the limits of the form in their numerals. What is mistyped in a definition is found here.
-use Prim.Native.Nat.{ℕ, ◌+◌}
+use Prim.Native.Nat.{ℕ}
 use Prim.Native.String.{String}
 use mathlib.Core.Bool.{Bool, true, false}
 use mathlib.Core.List.{List, [], ◌∷◌, ◌++◌, flatten, map}
 use mathlib.Core.Path.{◌≡◌, refl}
-use lib.ListN.{length, replicate}
+use lib.ListN.{replicate}
 use Rattle.table.specs.Example.{ascii, image, dated_image}
-use Rattle.form.specs.Reading.{start, has_room}
-use Rattle.form.specs.Calls.{number_of, place_of, line_of, column_of, Outcome, roomed, showing, making}
+use Rattle.form.specs.Reading.{has_room}
+use Rattle.form.specs.Calls.{number_of, place_of, line_of, column_of, roomed, making}
 use Rattle.form.specs.Showing.{shown}
 use Rattle.form.specs.declared.Draft.{Draft}
 use Rattle.form.specs.declared.Keyword.TheVariants.{Letter, Entry, Context, Transition, Decision}

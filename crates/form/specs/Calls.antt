@@ -6,7 +6,7 @@ use Rattle.table.specs.Verdict.{verdict_of}
 use Rattle.table.specs.declared.Refusal.TheVariants.{Room}
 use Rattle.table.specs.declared.Verdict.TheVariants.{Accepted, Refused as NotAccepted}
 use Rattle.form.specs.Numbers.{number_form}
-use Rattle.form.specs.Reading.{Reading, good, bad, reading, image_of, line_at, column_at}
+use Rattle.form.specs.Reading.{good, bad, reading, image_of, line_at, column_at}
 use Rattle.form.specs.Showing.{shown}
 use Rattle.form.specs.declared.Expected.{Expected}
 use Rattle.form.specs.declared.Drawn.{Drawn}

@@ -1,6 +1,6 @@
 -- A readable table, line by line: which line may stand where, how many of each there may be, and the image that the lines make. The lines stand in the
 -- image's order: dated, classes, variables, then letters, entries, contexts, transitions, decisions; empty lines and remarks stand anywhere.
-use Rattle.std.specs.Prelude.{ℕ, suc, ◌+◌, ◌-◌, ◌*◌, Bool, true, false, cond, ◌&&◌, ◌||◌, List, [], ◌∷◌, ◌++◌, leb, ltb, eqb, length, get_or, take, drop}
+use Rattle.std.specs.Prelude.{ℕ, suc, ◌+◌, ◌-◌, ◌*◌, Bool, true, false, cond, ◌||◌, List, [], ◌∷◌, ◌++◌, leb, ltb, eqb, length, get_or, take, drop}
 use Rattle.std.proofs.Math.Option.{Option, none, some}
 use Rattle.table.specs.Numbers.{letter_size, least_letters, most_letters, entry_size, dated_entry_size, most_entries, context_size, most_contexts, most_columns, first_mark, second_mark, dated_mark}
 use Rattle.table.specs.Search.{within, count}

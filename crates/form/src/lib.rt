@@ -2,6 +2,8 @@
 // a line of it are, in definitions (specs/, and for a keeper of tables docs/TABLES.md), and the small
 // functions that both sides share. Each is over any place of any line.
 
+#![tactic(auto)]
+
 mod answering;
 mod listing;
 mod wording;
@@ -11,7 +13,7 @@ use table::Refusal;
 pub use wording::{ends_line, ends_word, gap_end, is_escaped, is_word, symbol};
 
 // The word that begins a line.
-#[derive(Drop)]
+#[derive(Clone, Copy)]
 pub enum Keyword {
     Dated,
     Classes,
@@ -27,7 +29,7 @@ pub enum Keyword {
 // reached, no more of such a line, a number, a symbol, what may stand after a backslash, a word's
 // end, so many symbols, the colon, the line's end, a letter at least, a transition for each
 // variable.
-#[derive(Drop)]
+#[derive(Clone, Copy)]
 pub enum Expected {
     Line(u8),
     Fewer,
@@ -45,7 +47,7 @@ pub enum Expected {
 // A part of a line after its first word: a number from the one to the other, a symbol, so many
 // symbols, a string, a class with its right context, a shift, the signs and in a dated table the
 // years.
-#[derive(Drop)]
+#[derive(Clone, Copy)]
 pub enum Field {
     Number(u8, u8),
     Symbol,
@@ -58,7 +60,7 @@ pub enum Field {
 
 // What the lines so far say: how far they have come, and the numbers of the trailer and of the
 // records.
-#[derive(Drop)]
+#[derive(Clone, Copy)]
 pub struct Draft {
     pub stage: u8,
     pub dated: bool,
@@ -72,7 +74,7 @@ pub struct Draft {
 }
 
 // A number or a symbol, and where the line goes on; or what was expected, and where.
-#[derive(Drop)]
+#[derive(Clone, Copy)]
 pub enum Value {
     Is(u16, usize),
     Not(Expected, usize),
@@ -80,7 +82,7 @@ pub enum Value {
 
 // What `show` and `make` answer. A text that isn't of the form is told with the place of the first
 // byte that isn't, its line and column, and what was expected.
-#[derive(Drop)]
+#[derive(Clone, Copy)]
 pub enum Drawn {
     Done {
         written: usize,

@@ -2,7 +2,7 @@
 // A place past the line's end is its end.
 
 ghost use Rattle.std.specs.Prelude.{◌≡◌, ◌≤◌, length, drop};
-ghost use Rattle.form.specs.Words.{is_gap, after_gap, ends_word as wordEnds, ends_line as line_ends, is_word, is_escaped, escaped, symbol as symbolIn};
+ghost use Rattle.form.specs.Words.{is_gap, after_gap, ends_word as word_ends, ends_line as line_ends, is_word, is_escaped, escaped, symbol as symbol_in};
 ghost use Rattle.form.specs.inside.Steps.{value_read, ValueWithin};
 
 use crate::{Expected, Value};
@@ -33,7 +33,7 @@ pub fn gap_end(line: &[u8], at: usize) -> usize
 
 // Whether a word ends there.
 pub fn ends_word(line: &[u8], at: usize) -> bool
-    ensures { result ≡ wordEnds (drop at line.now) }
+    ensures { result ≡ word_ends (drop at line.now) }
 {
     if at < line.len() {
         return is_gap(line[at]);
@@ -93,7 +93,7 @@ fn after_backslash(line: &[u8], at: usize) -> Value
 
 // A symbol.
 pub fn symbol(line: &[u8], at: usize) -> Value
-    ensures { (value_read line.now result ≡ symbolIn (drop at line.now)) × ValueWithin 255 line.now result }
+    ensures { (value_read line.now result ≡ symbol_in (drop at line.now)) × ValueWithin 255 line.now result }
 {
     if line.len() < at {
         return Value::Not(Expected::Symbol, line.len());

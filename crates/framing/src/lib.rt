@@ -2,6 +2,8 @@
 // be asked with care: each answers for every image and every index. What each answer means is said
 // in specs/, by the definitions of `table`.
 
+#![tactic(auto)]
+
 mod frame;
 mod read;
 

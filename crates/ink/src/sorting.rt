@@ -1,7 +1,7 @@
 // What each character is to the marks, by its code.
 
 ghost use Rattle.std.specs.Prelude.{◌≡◌};
-ghost use Rattle.inkprint.specs.Glyphs.{is_own_sign, literal_of, latin_glyph, is_gap, is_nothing, is_dash, is_long_dash, typographic as typographicOf, ascii_sign, other_glyph, glyph_of, is_marked, is_letter, is_capital, is_apostrophe};
+ghost use Rattle.inkprint.specs.Glyphs.{is_own_sign, literal_of, latin_glyph, is_gap, is_nothing, is_dash, is_long_dash, typographic as typographic_of, ascii_sign, other_glyph, glyph_of, is_marked, is_letter, is_capital, is_apostrophe};
 
 use inkprint::Glyph;
 
@@ -75,7 +75,7 @@ fn is_long_dash(c: u32) -> bool
 
 // A typographic sign.
 fn typographic(c: u32) -> Glyph
-    ensures { result ≡ typographicOf c }
+    ensures { result ≡ typographic_of c }
 {
     if is_dash(c) {
         return Glyph::Plain(45);

@@ -2,13 +2,13 @@
 
 ghost use Rattle.std.specs.Prelude.{◌≡◌, ℕ, ◌≤◌, length, drop};
 ghost use Rattle.inkprint.specs.Characters.{characters_of};
-ghost use Rattle.inkprint.specs.Marks.{none as noMark, one as oneByte, two as two_bytes, three as three_bytes, four as four_bytes, state as state_of, step as stepTo, word_of, capital_signs, letter_mark, letter_step, sign_step, close_step, gap_step, feed_step, step_of};
+ghost use Rattle.inkprint.specs.Marks.{none as no_mark, one as one_byte, two as two_bytes, three as three_bytes, four as four_bytes, state as state_of, step as step_to, word_of, capital_signs, letter_mark, letter_step, sign_step, close_step, gap_step, feed_step, step_of};
 
 use crate::looking::{all_capitals, is_blank, starts_capital, starts_letter};
 use inkprint::{Glyph, Signs, State, Step};
 
 fn one(a: u8) -> Signs
-    ensures { result ≡ oneByte a }
+    ensures { result ≡ one_byte a }
 {
     Signs {
         count: 1,
@@ -56,7 +56,7 @@ fn four(a: u8, b: u8, c: u8, d: u8) -> Signs
 }
 
 fn nothing() -> Signs
-    ensures { result ≡ noMark }
+    ensures { result ≡ no_mark }
 {
     Signs {
         count: 0,
@@ -68,7 +68,7 @@ fn nothing() -> Signs
 }
 
 fn step(mark: Signs, line: u8, word: u8, single: bool) -> Step
-    ensures { result ≡ stepTo mark (state_of line word single) }
+    ensures { result ≡ step_to mark (state_of line word single) }
 {
     Step {
         mark: mark,

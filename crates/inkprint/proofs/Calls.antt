@@ -1,6 +1,6 @@
 -- The call, case by case, and what its answer tells: each refusal is the answer exactly when its reason holds, 0 exactly when none does; a refused call leaves the
 -- output as it was, and a done one has the marked text at its front and leaves what lies beyond. The results are any that the promise of the call allows.
-use Prim.Native.Nat.{ℕ, ◌+◌, ◌≤◌, ◌<◌}
+use Prim.Native.Nat.{ℕ, ◌≤◌, ◌<◌}
 use mathlib.Core.List.{List, ◌++◌}
 use mathlib.Core.Logic.{◌↔◌}
 use mathlib.Core.Path.{◌≡◌, refl, sym, ◌∙◌, ap}

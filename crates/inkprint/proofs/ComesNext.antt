@@ -2,10 +2,8 @@
 -- character there. Each by taking that character off the rest.
 use Prim.Native.Nat.{ℕ, ◌+◌, ◌≤◌, ◌<◌}
 use mathlib.Core.Bool.{Bool, true, false, cond, ◌&&◌}
-use mathlib.Core.List.{List, [], ◌∷◌}
-use mathlib.Core.Path.{◌≡◌, sym, ap, ◌∙◌}
-use types.Run.{OneOf, miss}
-use denote.Enum.Declared.{tag_of}
+use mathlib.Core.List.{List, ◌∷◌}
+use mathlib.Core.Path.{◌≡◌, refl, sym, ap, ◌∙◌}
 use lib.ListN.{length, drop}
 use Rattle.inkprint.specs.Characters.{next_of, characters_of}
 use Rattle.inkprint.specs.Glyphs.{glyph_of, is_letter, is_capital, is_apostrophe}
@@ -13,7 +11,6 @@ use Rattle.inkprint.specs.Marks.{starts_letter, starts_capital, capital_next, ca
 use Rattle.inkprint.specs.declared.Character.{Character}
 use Rattle.inkprint.specs.declared.Glyph.{Glyph}
 use Rattle.inkprint.specs.declared.Glyph.TheVariants.{Letter, Plain, Literal, Gap, Nothing, Feed, Page, LongDash, Dots, Opens, Closes, Unmarked}
-use Rattle.inkprint.specs.contracts.Glyph.{the_type}
 use Rattle.inkprint.proofs.Characters.{characters_none, characters_more}
 
 -- ---- A test that goes on to a second one
@@ -49,24 +46,21 @@ module _ (text : List ℕ) (at : ℕ) (over : length text ≤ at) where
 
 -- ---- At a place of the text, where a character stands
 
--- the numbers of the glyphs that no blank line has
-abbrev pub inks : List ℕ
-inks = 0 ∷ 1 ∷ 2 ∷ 6 ∷ 7 ∷ 8 ∷ 9 ∷ 10 ∷ 11 ∷ []
-
-ink_there : (r : Character) (cs : List Character) (g : Glyph) → glyph_of r.code ≡ g → OneOf inks (tag_of the_type g) → is_blank (r ∷ cs) ≡ false
+-- a glyph that no blank line has
+ink_there : (r : Character) (cs : List Character) (g : Glyph) → glyph_of r.code ≡ g → (g ≡ Gap → ⊥) → (g ≡ Nothing → ⊥) → (g ≡ Feed → ⊥) → is_blank (r ∷ cs) ≡ false
 unfolding is_blank
-ink_there r cs (Letter l k a) e h = rw (e, is_blank)
-ink_there r cs (Plain s) e h = rw (e, is_blank)
-ink_there r cs (Literal s) e h = rw (e, is_blank)
-ink_there r cs Gap e h = absurd (miss inks 3 tt h)
-ink_there r cs Nothing e h = absurd (miss inks 4 tt h)
-ink_there r cs Feed e h = absurd (miss inks 5 tt h)
-ink_there r cs Page e h = rw (e, is_blank)
-ink_there r cs LongDash e h = rw (e, is_blank)
-ink_there r cs Dots e h = rw (e, is_blank)
-ink_there r cs Opens e h = rw (e, is_blank)
-ink_there r cs Closes e h = rw (e, is_blank)
-ink_there r cs Unmarked e h = rw (e, is_blank)
+ink_there r cs (Letter l k a) e p n f = rw (e, is_blank)
+ink_there r cs (Plain s) e p n f = rw (e, is_blank)
+ink_there r cs (Literal s) e p n f = rw (e, is_blank)
+ink_there r cs Gap e p n f = absurd (p refl)
+ink_there r cs Nothing e p n f = absurd (n refl)
+ink_there r cs Feed e p n f = absurd (f refl)
+ink_there r cs Page e p n f = rw (e, is_blank)
+ink_there r cs LongDash e p n f = rw (e, is_blank)
+ink_there r cs Dots e p n f = rw (e, is_blank)
+ink_there r cs Opens e p n f = rw (e, is_blank)
+ink_there r cs Closes e p n f = rw (e, is_blank)
+ink_there r cs Unmarked e p n f = rw (e, is_blank)
 
 module _ (text : List ℕ) (at : ℕ) (here : at < length text) (r : Character) (is : r ≡ next_of (drop at text)) where
   pub characters_at : characters_of (drop at text) ≡ r ∷ characters_of (drop (at + r.size) text)
@@ -122,5 +116,5 @@ module _ (text : List ℕ) (at : ℕ) (here : at < length text) (r : Character) 
     unfolding is_blank
     blank_feed e = rw (characters_at, sym told ∙ e, is_blank)
 
-    pub blank_not : OneOf inks (tag_of the_type g) → is_blank (characters_of (drop at text)) ≡ false
-    blank_not h = rw characters_at (ink_there r (characters_of (drop (at + r.size) text)) g (sym told) h)
+    pub blank_not : (g ≡ Gap → ⊥) → (g ≡ Nothing → ⊥) → (g ≡ Feed → ⊥) → is_blank (characters_of (drop at text)) ≡ false
+    blank_not p n f = rw characters_at (ink_there r (characters_of (drop (at + r.size) text)) g (sym told) p n f)

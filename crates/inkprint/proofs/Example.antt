@@ -2,7 +2,7 @@
 use Prim.Native.Nat.{ℕ}
 use Prim.Native.String.{String}
 use mathlib.Core.Bool.{true, false, cond}
-use mathlib.Core.List.{List, [], ◌∷◌, ◌++◌, map}
+use mathlib.Core.List.{[], ◌∷◌, ◌++◌, map}
 use mathlib.Core.Path.{◌≡◌, refl}
 use lib.Dec.{eqb}
 use Rattle.table.specs.Example.{ascii}
@@ -10,7 +10,7 @@ use Rattle.table.specs.Lists.{empty, ◌and◌}
 use Rattle.inkprint.specs.Calls.{number_of, place_of, written_of}
 use Rattle.inkprint.specs.Characters.{character, next_of}
 use Rattle.inkprint.specs.Glyphs.{latin_letters, glyph_of}
-use Rattle.inkprint.specs.Marks.{Marking, marked, unmarked, marking, source_of}
+use Rattle.inkprint.specs.Marks.{marked, unmarked, marking, source_of}
 use Rattle.inkprint.specs.Kept.{folded, after, EndsBlank}
 use Rattle.inkprint.specs.declared.Glyph.TheVariants.{Letter, Plain, Gap, Nothing, Feed, Page, LongDash, Dots, Opens, Closes, Unmarked}
 use Rattle.inkprint.specs.declared.Inked.TheVariants as inked

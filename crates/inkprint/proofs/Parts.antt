@@ -1,7 +1,7 @@
 -- A text may be marked in pieces, cut after blank lines: no rule looks past a line's end, and after a blank line all begins anew. By induction on the characters
 -- before a line feed; a line feed belongs to no other character, so the characters before it and after it are those of the bytes before it and after it.
 use Prim.Native.Nat.{ℕ, zero, suc, ◌+◌, ◌≤◌, ◌<◌}
-use mathlib.Core.Bool.{Bool, true, false, false≢true, cond, ◌&&◌, and_false}
+use mathlib.Core.Bool.{Bool, true, false, false≢true, cond, ◌&&◌, and-false}
 use mathlib.Core.List.{List, [], ◌∷◌, ◌++◌, append_assoc, append-nil}
 use mathlib.Core.Logic.{◌⊎◌, inl, inr}
 use mathlib.Core.Path.{◌≡◌, refl, sym, ◌∙◌, ap}
@@ -27,15 +27,15 @@ use Rattle.inkprint.proofs.Kept.{mark_step}
 
 four_stop : (a b c d : ℕ) → goes_on d ≡ false → of_four a b c d ≡ character broken 1
 unfolding of_four
-four_stop a b c d h = simp (h, and_false)
+four_stop a b c d h = simp (h, and-false)
 
 three_stop : (a b c d : ℕ) → goes_on c ≡ false → of_three a b c d ≡ character broken 1
 unfolding of_three of_four
-three_stop a b c d h = simp (h, and_false)
+three_stop a b c d h = simp (h, and-false)
 
 two_stop : (a b c d : ℕ) → goes_on b ≡ false → of_two a b c d ≡ character broken 1
 unfolding of_two of_three of_four
-two_stop a b c d h = simp (h, and_false)
+two_stop a b c d h = simp (h, and-false)
 
 next_feed : (a : ℕ) (x y : List ℕ) → next_of ((a ∷ x) ++ line_feed ∷ y) ≡ next_of (a ∷ x)
 unfolding next_of of_bytes of_two of_three

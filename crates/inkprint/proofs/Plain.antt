@@ -26,6 +26,7 @@ use Rattle.inkprint.proofs.Kept.{Right, glyph_right, step_part, mark_step, marke
 
 -- what all members of a list have, each has
 all_member : {A : Type 0} {holds : A → Type 0} {xs : List A} {x : A} → All holds xs → Memᴰ x xs → holds x
+all_member {A = A} {holds = holds} empty m = elim m [ ]
 all_member (h and hs) (Memᴰ.head e) = rw e h
 all_member (h and hs) (Memᴰ.tail m) = all_member hs m
 

@@ -1,5 +1,5 @@
 -- What a character of inkprint is to the marks: a letter, a sign that stands for itself or for another, a gap, a line's end, or none that has a mark.
-use Rattle.std.specs.Prelude.{ℕ, ◌-◌, Bool, true, false, cond, ◌&&◌, ◌||◌, List, [], ◌∷◌, leb, eqb, get_or}
+use Rattle.std.specs.Prelude.{ℕ, ◌-◌, Bool, true, false, cond, ◌||◌, List, [], ◌∷◌, leb, eqb, get_or}
 use Rattle.table.specs.Search.{within}
 use Rattle.inkprint.specs.Numbers.{double_quote, hyphen, left_bracket, right_bracket}
 use Rattle.inkprint.specs.declared.Glyph.{Glyph}

@@ -4,10 +4,12 @@
 // an editor in docs/ENGLISH.md; here are the types that the definitions and the calls share. The
 // calls themselves are in marks.
 
+#![tactic(auto)]
+
 mod answering;
 
 // A character of the text: its code, and how many bytes it has.
-#[derive(Drop)]
+#[derive(Clone, Copy)]
 pub struct Character {
     pub code: u32,
     pub size: usize,
@@ -17,7 +19,7 @@ pub struct Character {
 // a sign, itself or as the convention has it; a sign of the convention's own, with what stands after
 // the code sign; a gap, nothing, a line's end, a page's end, a long dash, three dots, a left single
 // quote, a right one; or none that has a mark.
-#[derive(Drop)]
+#[derive(Clone, Copy)]
 pub enum Glyph {
     Letter(u8, bool, bool),
     Plain(u8),
@@ -34,7 +36,7 @@ pub enum Glyph {
 }
 
 // The bytes that a character becomes, at most four.
-#[derive(Drop)]
+#[derive(Clone, Copy)]
 pub struct Signs {
     pub count: usize,
     pub a: u8,
@@ -44,7 +46,7 @@ pub struct Signs {
 }
 
 // Where the marking stands: in the line, in the word, and whether a single quote is open.
-#[derive(Drop)]
+#[derive(Clone, Copy)]
 pub struct State {
     pub line: u8,
     pub word: u8,
@@ -52,7 +54,7 @@ pub struct State {
 }
 
 // A character's mark, and the state after it.
-#[derive(Drop)]
+#[derive(Clone, Copy)]
 pub struct Step {
     pub mark: Signs,
     pub next: State,
@@ -60,21 +62,21 @@ pub struct Step {
 
 // What the whole text comes to: the bytes of its marked text, or the place of the first character
 // that has no mark.
-#[derive(Drop)]
+#[derive(Clone, Copy)]
 pub enum Walked {
     To(usize),
     Wrong(usize),
 }
 
 // Whether each character has a mark, or the place of the first that has none.
-#[derive(Drop)]
+#[derive(Clone, Copy)]
 pub enum Judged {
     Fine,
     Wrong(usize),
 }
 
 // What `mark` answers.
-#[derive(Drop)]
+#[derive(Clone, Copy)]
 pub enum Inked {
     Done { written: usize },
     Unmarked(usize),

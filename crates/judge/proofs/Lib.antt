@@ -1,3 +1,2 @@
 pub mod VerdictSteps
-pub mod Walks
 pub mod Promises

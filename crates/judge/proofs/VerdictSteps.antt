@@ -8,7 +8,7 @@ use Rattle.table.specs.Numbers.{blank}
 use Rattle.table.specs.Search.{member}
 use Rattle.table.specs.Sections.{offset}
 use Rattle.table.specs.Records.{symbols, section_named, name_at, first_wrong}
-use Rattle.table.specs.Records as found-wrong
+use Rattle.table.specs.Records as found_wrong
 use Rattle.table.specs.Table.{table_in}
 use Rattle.table.specs.Grouping.{first_break}
 use Rattle.table.specs.Verdict.{refusal_in, strings, grouping_verdict, blank_verdict, records_verdict}
@@ -41,7 +41,7 @@ module _ (image : List ℕ) (s : Sections) where
       blanks true e = rw (e, blank_verdict, blank_judged)
       blanks false e = rw (e, blank_verdict, blank_judged)
 
-      go : (o : Option found-wrong.Wrong) → first_wrong image s ≡ o → records_verdict image s ≡ verdict_by (records_judged image s)
+      go : (o : Option found_wrong.Wrong) → first_wrong image s ≡ o → records_verdict image s ≡ verdict_by (records_judged image s)
       go none f = rw (f, records_verdict, records_judged) (blanks (member blank (symbols image s)) refl)
       go (some w) f = rw (f, records_verdict, records_judged, named_by_number w.section)
 

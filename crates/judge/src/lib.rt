@@ -2,6 +2,8 @@
 // reader, by which an image is opened once. No function has to be asked with care: each answers for
 // every image. What each answer means is said in specs/, by the definitions of `table`.
 
+#![tactic(auto)]
+
 mod groups;
 mod judging;
 mod opening;
@@ -10,7 +12,7 @@ pub use opening::{check, open};
 use table::{Sections, Verdict};
 
 // An opened image: the image as it was lent, its sections, and the verdict on it.
-#[derive(Drop)]
+#[derive(Clone, Copy)]
 pub struct Reader<'a> {
     pub image: &'a [u8],
     pub sections: Sections,

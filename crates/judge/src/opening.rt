@@ -1,6 +1,5 @@
 // An image is opened once: its sections are found, it is judged by them, and a reader holds both
-// beside the image as it was lent. What goes through a reader is straight and proved by hand, since
-// the borrow checker covers no function over a struct that holds a reference; the work is done by
+// beside the image as it was lent. What goes through a reader is straight; the work is done by
 // functions on the image and its sections.
 
 ghost use Rattle.judge.specs.Promises.{Checked, Reads, ReaderVerdict};

@@ -31,7 +31,7 @@ use Rattle.pages.specs.Fitting.{Fitting, words_in}
 use Rattle.pages.specs.Right.{PageRight}
 use Rattle.pages.specs.Signs.{is_dotted}
 use Rattle.pages.specs.Drawn.{Shows}
-use Rattle.pages.specs.Volume.{bytes_of as bytesOfSigns}
+use Rattle.pages.specs.Volume.{bytes_of as bytes_of_signs}
 use Rattle.layout.specs.Emboss.{bytes_of}
 use Rattle.pages.proofs.Permitted as Permitted-laws
 use Rattle.pages.proofs.NoLater as NoLater-laws
@@ -75,28 +75,28 @@ module _ (setting : Setting) (image text : List ℕ) (sheet : Sheet) (width : Be
 
   -- no line has more than W cells or ends in a blank, its cells are at most 63; no page has more than P lines, or none
   pub text_pages_right : All (PageRight sheet) (pages_of (bytes_of (table_of image) setting text sheet))
-  unfolding bytesOfSigns
+  unfolding bytes_of_signs
   text_pages_right = Volume-laws.pages_right sheet items text_fits page_room
 
   -- the pages, as lists of lines, have the output's bytes
   pub text_pages_bytes : bytes_of_pages (pages_of (bytes_of (table_of image) setting text sheet)) ≡ bytes_of (table_of image) setting text sheet
-  unfolding bytesOfSigns
+  unfolding bytes_of_signs
   text_pages_bytes = Volume-laws.pages_have_the_bytes sheet items text_fits page_room
 
   -- the answer's lines and pages are those of the pages
   pub text_lines_counted :
       length (flatten (pages_of (bytes_of (table_of image) setting text sheet))) ≡ count line_mark (bytes_of (table_of image) setting text sheet)
-  unfolding bytesOfSigns
+  unfolding bytes_of_signs
   text_lines_counted = Volume-laws.lines_counted sheet items text_fits page_room
 
   pub text_pages_counted : length (pages_of (bytes_of (table_of image) setting text sheet)) ≡ count page_mark (bytes_of (table_of image) setting text sheet)
-  unfolding bytesOfSigns
+  unfolding bytes_of_signs
   text_pages_counted = Volume-laws.pages_counted sheet items text_fits page_room
 
   -- the cells of the pages that aren't blank are, in order, the parts of the words
   pub text_has_the_parts :
       only is_dotted (flatten (flatten (pages_of (bytes_of (table_of image) setting text sheet)))) ≡ flatten (flatten (cuts_of sheet.width signs))
-  unfolding bytesOfSigns
+  unfolding bytes_of_signs
   text_has_the_parts = volume_has_the_parts sheet signs signs_are_printed cuttable page_room
 
   -- each part of a word but the last has W cells, the hyphen the last of them, and the last has 1 to W
@@ -118,16 +118,16 @@ module _ (setting : Setting) (image text : List ℕ) (sheet : Sheet) (width : Be
 
   -- the output shows our layout: its spots, its lines, and the lines of each of its pages
   pub text_shown : Shows (bytes_of (table_of image) setting text sheet) (words_in items) (layout_of sheet items)
-  unfolding bytesOfSigns
+  unfolding bytes_of_signs
   text_shown = bytes_show_the_layout sheet items text_fits page_room
 
   -- and its lines and pages are the output's
   pub text_layout_lines : (layout_of sheet items).lines ≡ count line_mark (bytes_of (table_of image) setting text sheet)
-  unfolding bytesOfSigns layout_of
+  unfolding bytes_of_signs layout_of
   text_layout_lines = lines_are_64s sheet items text_fits page_room
 
   pub text_layout_pages : length (layout_of sheet items).pages ≡ count page_mark (bytes_of (table_of image) setting text sheet)
-  unfolding bytesOfSigns layout_of
+  unfolding bytes_of_signs layout_of
   text_layout_pages = volume_sizes_counted sheet items page_room ∙ pages_are_65s sheet items text_fits page_room
 
   -- every permitted layout arises from choices, and is shown by the bytes of the same words with the line ended before each chosen one

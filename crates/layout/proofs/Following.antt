@@ -2,7 +2,7 @@
 -- and by every table; and never with 15, whatever the table is. Two symbols of one class give one answer and output, and so do any two where no
 -- entry has a right context, unless 15 is the answer to one of them.
 use Prim.Native.Nat.{ℕ, ◌≤◌, ◌<◌}
-use mathlib.Core.Bool.{Bool, true, false}
+use mathlib.Core.Bool.{true, false}
 use mathlib.Core.List.{List}
 use mathlib.Core.Option.{Option, none, some}
 use mathlib.Core.Path.{◌≡◌, refl, sym, ◌∙◌, ap}
@@ -18,21 +18,20 @@ use Rattle.layout.specs.Refusals.{Line, of_table, line_5, line_6, line_7, line_1
 use Rattle.layout.proofs.Refusals.{refused_exactly_when}
 use Rattle.table.specs.Table.{table_of}
 use Rattle.table.specs.Verdict.{verdict_of}
-use Rattle.table.specs.declared.Refusal.TheVariants.{Following}
 use Rattle.table.specs.declared.Verdict.{Verdict}
 use Rattle.table.specs.declared.Verdict.TheVariants.{Accepted, Refused as NotAccepted}
 use Rattle.table.proofs.Sound.{accepted_sound}
 use Rattle.translation.specs.Letters.{class_of, is_known, first_unknown}
 use Rattle.translation.specs.Pieces.{pieces_of}
 use Rattle.translation.specs.Refusals.{FollowingUnknown}
-use Rattle.translation.specs.Translate.{Result, refused as notMade, translate_by, translate_on}
+use Rattle.translation.specs.Translate.{Result, translate_by, translate_on}
 use Rattle.translation.specs.declared.Setting.{Setting}
 use Rattle.translation.proofs.Refusals.{known_exactly_when}
 use Rattle.translation.proofs.Outcomes.{too_long, unknown_at, made_by, table_refused, also_refused, goes_on}
 use Rattle.translation.proofs.Following.{NoContexts, same_class_same_pieces, no_context_same_pieces, SameUnless15, first_15, second_15, same_result, same_on_terms}
 use Rattle.pages.specs.Volume.{sheet_verdict}
 use Rattle.pages.specs.declared.Sheet.{Sheet}
-use Rattle.layout.specs.Emboss.{number, place, Outcome, refused, laid, terms_of, embossing}
+use Rattle.layout.specs.Emboss.{number, place, refused, laid, terms_of, embossing}
 use Rattle.layout.proofs.Years.{old_tables_any_year}
 use Rattle.layout.specs.Before.{blank_in, made_before, on_before, embossed_before}
 

@@ -29,7 +29,7 @@ use Rattle.table.proofs.Refusals as TableLaws
 use Rattle.translation.specs.Letters.{is_known, first_unknown}
 use Rattle.translation.specs.Pieces.{pieces_of}
 use Rattle.translation.specs.Refusals.{FirstUnknownAt, FollowingUnknown}
-use Rattle.translation.specs.Translate.{Result, made, refused as notMade, translate_by, translate_on}
+use Rattle.translation.specs.Translate.{Result, made, refused as not_made, translate_by, translate_on}
 use Rattle.translation.specs.declared.Setting.{Setting}
 use Rattle.translation.proofs.Outcomes.{too_long, unknown_at, following_refused, made_by, table_refused, also_refused, goes_on}
 use Rattle.translation.proofs.Refusals.{unknown_exactly_when, none_unknown_exactly_when, known_exactly_when}
@@ -120,7 +120,7 @@ module _ (setting : Setting) (image text : List ℕ) (sheet : Sheet) (out : List
           (record { turn = table_lines + 5; line = line_8 (leb-false _ _ e); none_before = before })
 
   -- a result that is refused
-  told_not_made : {result : Result} (r : Refusal) → 0 < refusal_number r → result ≡ notMade r → FirstLine Holds (refusal_number r) (refusal_place r)
+  told_not_made : {result : Result} (r : Refusal) → 0 < refusal_number r → result ≡ not_made r → FirstLine Holds (refusal_number r) (refusal_place r)
       → Told (laid sheet out result)
   unfolding laid
   told_not_made r h e f = told_refused r h (rw (e, laid)) f

@@ -12,7 +12,7 @@ use Rattle.table.specs.declared.Verdict.{Verdict}
 use Rattle.table.proofs.Sound.{accepted_sound}
 use Rattle.translation.specs.Collapse.{collapsed}
 use Rattle.translation.specs.Pieces.{Piece, pieces_of, signs_of}
-use Rattle.translation.specs.Translate.{Result, made, refused as notMade, translate_on}
+use Rattle.translation.specs.Translate.{Result, made, refused as not_made, translate_on}
 use Rattle.translation.specs.Handed.{handed, translation}
 use Rattle.translation.specs.Promises.{Translated}
 use Rattle.translation.specs.declared.Setting.{Setting}
@@ -22,7 +22,7 @@ use Rattle.translation.proofs.Outcomes.{Made, made_means}
 use Rattle.translation.proofs.Signs.{signs_printed}
 use Rattle.pages.specs.Words.{Item, items_of}
 use Rattle.pages.specs.Fitting.{Fitting}
-use Rattle.pages.specs.Volume.{sheet_verdict, bytes_of as bytesOfSigns, end_of}
+use Rattle.pages.specs.Volume.{sheet_verdict, bytes_of as bytes_of_signs, end_of}
 use Rattle.pages.specs.Fill.{filling}
 use Rattle.pages.specs.Fill as Fill
 use Rattle.pages.specs.Promises.{Fills}
@@ -34,7 +34,7 @@ use Rattle.pages.proofs.Words.{items_fit}
 use Rattle.layout.specs.Emboss.{Outcome, refused, done, roomed, laid, terms_of, embossing}
 use Rattle.layout.specs.inside.Pieces.{with_pieces}
 use Rattle.layout.specs.Promises.{Embossed}
-use Rattle.layout.specs.declared.Answer.TheVariants.{Done, Refused}
+use Rattle.layout.specs.declared.Answer.TheVariants.{Refused}
 
 module _ (setting : Setting) (image text : List ℕ) (sheet : Sheet) (out lent : List ℕ) where
   abbrev result : Result
@@ -71,17 +71,17 @@ module _ (setting : Setting) (image text : List ℕ) (sheet : Sheet) (out lent :
     filled = filling sheet (signs_of ps) out
 
     same : laid sheet out (made ps) ≡ record { answer = with_pieces (length ps) filled.answer; output = filled.output }
-    unfolding laid roomed done refused filling Fill.roomed Fill.done Fill.refused bytesOfSigns end_of
-    same = go (leb (length (bytesOfSigns sheet (signs_of ps))) (length out)) refl
+    unfolding laid roomed done refused filling Fill.roomed Fill.done Fill.refused bytes_of_signs end_of
+    same = go (leb (length (bytes_of_signs sheet (signs_of ps))) (length out)) refl
       where
-        go : (b : Bool) → leb (length (bytesOfSigns sheet (signs_of ps))) (length out) ≡ b
+        go : (b : Bool) → leb (length (bytes_of_signs sheet (signs_of ps))) (length out) ≡ b
             → laid sheet out (made ps) ≡ record { answer = with_pieces (length ps) filled.answer; output = filled.output }
         go true f = rw (made_pieces.allowed, filling, f, laid, roomed, Fill.roomed, lines_are_64s sheet items fits page_room, pages_are_65s sheet items fits page_room)
         go false f = rw (made_pieces.allowed, filling, f, laid, roomed, Fill.roomed)
 
   by_result : (x : Result) → result ≡ x → Case (handed lent x).answer (handed lent x).signs
   unfolding handed laid refused
-  by_result (notMade r) e = embossed_as {o = refused out r} (rw (e, laid))
+  by_result (not_made r) e = embossed_as {o = refused out r} (rw (e, laid))
   by_result (made ps) e =
       let front : take (length (signs_of ps)) (signs_of ps ++ drop (length (signs_of ps)) lent) ≡ signs_of ps = take-append_seam (signs_of ps) (drop (length (signs_of ps)) lent) in
       λ a after x.

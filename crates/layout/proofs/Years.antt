@@ -1,10 +1,10 @@
 -- The year, over the whole call, refusals included. By a table in the old form every year gives the same answer and output; two accepted images whose tables
 -- are alike in a year give the same in that year, whatever form each has; and an entry that isn't in force is as if it weren't there.
-use Prim.Native.Nat.{ℕ, ◌≤◌, ◌<◌}
+use Prim.Native.Nat.{ℕ, ◌≤◌}
 use mathlib.Core.Bool.{Bool, true, false}
-use mathlib.Core.List.{List, map}
+use mathlib.Core.List.{List}
 use mathlib.Core.Option.{Option, none, some}
-use mathlib.Core.Path.{◌≡◌, refl, sym, ◌∙◌, ap, ap₂, subst}
+use mathlib.Core.Path.{◌≡◌, refl, sym, ◌∙◌, ap, ap₂}
 use native.Mathlib.Decide.{dec_le}
 use native.Mathlib.Omega.{arith}
 use lib.Dec.{leb}
@@ -20,14 +20,14 @@ use Rattle.table.proofs.Sound.{old_form_always}
 use Rattle.translation.specs.Letters.{is_known, first_unknown}
 use Rattle.translation.specs.Choose.{in_force, no_entry, entry}
 use Rattle.translation.specs.Pieces.{Piece, pieces_of, signs_of}
-use Rattle.translation.specs.Translate.{Result, made, refused as notMade, translate_followed, translate_by, translate_on}
+use Rattle.translation.specs.Translate.{Result, made, refused as not_made, translate_followed, translate_by, translate_on}
 use Rattle.translation.specs.Years.{AlikeIn, without_entry, unnumbered}
 use Rattle.translation.specs.declared.Setting.{Setting}
-use Rattle.translation.proofs.Outcomes.{too_long, unknown_at, following_refused, made_by, table_refused, also_refused, goes_on}
+use Rattle.translation.proofs.Outcomes.{too_long, unknown_at, following_refused, made_by, also_refused, goes_on}
 use Rattle.translation.proofs.Years.{always_same_pieces, alike_pieces, unnumbered_signs, alike_without}
-use Rattle.pages.specs.Volume.{sheet_verdict, bytes_of as bytesOfSigns}
+use Rattle.pages.specs.Volume.{sheet_verdict, bytes_of as bytes_of_signs}
 use Rattle.pages.specs.declared.Sheet.{Sheet}
-use Rattle.layout.specs.Emboss.{Outcome, roomed, laid, terms_of, embossing}
+use Rattle.layout.specs.Emboss.{roomed, laid, terms_of, embossing}
 use Rattle.layout.specs.Years.{embossed_by}
 
 -- ---- Old tables don't care about the year
@@ -41,10 +41,10 @@ module _ (image text : List ℕ) (sheet : Sheet) (out : List ℕ) (u v : Setting
       (λ (k : Bool) (ps : List Piece).
       elim (leb (length text) most_text) [
         | true ↦ elim (first_unknown table.letters text) [
-          | none ↦ elim k [ true ↦ made ps | false ↦ notMade Following ]
-          | some at ↦ notMade (Unknown at)
+          | none ↦ elim k [ true ↦ made ps | false ↦ not_made Following ]
+          | some at ↦ not_made (Unknown at)
         ]
-        | false ↦ notMade LongText
+        | false ↦ not_made LongText
       ])
       (ap (is_known table.letters) follows) same
 
@@ -55,8 +55,8 @@ module _ (image text : List ℕ) (sheet : Sheet) (out : List ℕ) (u v : Setting
       ap
       (λ (r : Result).
       elim (verdict_of image) [
-        | Accepted ↦ elim (sheet_verdict sheet) [ Accepted ↦ r | NotAccepted w ↦ notMade w ]
-        | NotAccepted w ↦ notMade w
+        | Accepted ↦ elim (sheet_verdict sheet) [ Accepted ↦ r | NotAccepted w ↦ not_made w ]
+        | NotAccepted w ↦ not_made w
       ])
       same
 
@@ -92,7 +92,7 @@ module _ (setting : Setting) (a b : Table) (alike : AlikeIn setting.year a b) (t
       sym (unnumbered_signs (pieces_of a setting text)) ∙ ap signs_of e ∙ unnumbered_signs (pieces_of b setting text) in
       let count : length (pieces_of a setting text) ≡ length (pieces_of b setting text) =
       sym (length-map (pieces_of a setting text) unnumbered) ∙ ap length e ∙ length-map (pieces_of b setting text) unnumbered in
-      ap₂ (λ (gs : List ℕ) (n : ℕ). roomed out (bytesOfSigns sheet gs) n) signs count
+      ap₂ (λ (gs : List ℕ) (n : ℕ). roomed out (bytes_of_signs sheet gs) n) signs count
 
   same_by : laid sheet out (translate_by a setting text) ≡ laid sheet out (translate_by b setting text)
   same_by = by_length (dec_le (length text) most_text)

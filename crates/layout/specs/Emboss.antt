@@ -7,12 +7,12 @@ use Rattle.table.specs.Table.{Table}
 use Rattle.table.specs.declared.Refusal.{Refusal}
 use Rattle.table.specs.declared.Refusal.TheVariants.{Room}
 use Rattle.translation.specs.Pieces.{pieces_of, signs_of}
-use Rattle.translation.specs.Translate.{Result, made, refused as notMade, translate_on}
+use Rattle.translation.specs.Translate.{Result, made, refused as not_made, translate_on}
 use Rattle.translation.specs.declared.Setting.{Setting}
 use Rattle.translation.specs.declared.Terms.{Terms}
 use Rattle.pages.specs.Numbers.{line_mark, page_mark}
 use Rattle.table.specs.Search.{count}
-use Rattle.pages.specs.Volume.{bytes_of as bytesOfSigns, sheet_verdict}
+use Rattle.pages.specs.Volume.{bytes_of as bytes_of_signs, sheet_verdict}
 use Rattle.pages.specs.declared.Sheet.{Sheet}
 use Rattle.layout.specs.declared.Answer.{Answer}
 use Rattle.layout.specs.declared.Answer.TheVariants.{Done, Refused}
@@ -62,7 +62,7 @@ done out bytes n =
 
 -- the bytes of a text
 abbrev pub bytes_of : Table → Setting → List ℕ → Sheet → List ℕ
-bytes_of table setting text sheet = bytesOfSigns sheet (signs_of (pieces_of table setting text))
+bytes_of table setting text sheet = bytes_of_signs sheet (signs_of (pieces_of table setting text))
 
 -- 8: output too short
 unfoldable pub roomed : List ℕ → List ℕ → ℕ → Outcome
@@ -70,8 +70,8 @@ roomed out bytes n = elim (leb (length bytes) (length out)) [ true ↦ done out 
 
 -- the pieces of a text are laid out, and a refusal is handed on
 unfoldable pub laid : Sheet → List ℕ → Result → Outcome
-laid sheet out (made pieces) = roomed out (bytesOfSigns sheet (signs_of pieces)) (length pieces)
-laid sheet out (notMade r) = refused out r
+laid sheet out (made pieces) = roomed out (bytes_of_signs sheet (signs_of pieces)) (length pieces)
+laid sheet out (not_made r) = refused out r
 
 -- what follows the end of the text is said by the caller; 5, W or P outside its limits, is checked after the table and before the text
 abbrev pub terms_of : Setting → Sheet → Terms

@@ -3,7 +3,7 @@
 use Rattle.std.specs.Prelude.{ℕ, List}
 use Rattle.table.specs.Table.{Table}
 use Rattle.table.specs.declared.Verdict.TheVariants.{Accepted, Refused as NotAccepted}
-use Rattle.translation.specs.Translate.{refused as notMade, translate_by}
+use Rattle.translation.specs.Translate.{refused as not_made, translate_by}
 use Rattle.translation.specs.declared.Setting.{Setting}
 use Rattle.pages.specs.Volume.{sheet_verdict}
 use Rattle.pages.specs.declared.Sheet.{Sheet}
@@ -11,4 +11,4 @@ use Rattle.layout.specs.Emboss.{Outcome, laid}
 
 unfoldable pub embossed_by : Table → Setting → List ℕ → Sheet → List ℕ → Outcome
 embossed_by table setting text sheet out =
-    laid sheet out (elim (sheet_verdict sheet) [ Accepted ↦ translate_by table setting text | NotAccepted r ↦ notMade r ])
+    laid sheet out (elim (sheet_verdict sheet) [ Accepted ↦ translate_by table setting text | NotAccepted r ↦ not_made r ])

@@ -2,6 +2,8 @@
 // which is always; `undate` takes such years away again. What each call means is said in specs/ of
 // dates.
 
+#![tactic(auto)]
+
 mod moving;
 mod putting;
 

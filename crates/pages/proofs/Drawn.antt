@@ -199,9 +199,9 @@ module _ (lines : List Line) (line : Line) (words : List (List ℕ)) (spots : Li
       go : Dec (x < length line + blanks) → WordOrBlank after (words ++ w ∷ []) (spots ++ s ∷ []) l x
       go (yes b) =
           let at : x ≡ length line + k = omega arith in
-          let past-line = get_or-append-add line (cells_after blanks w) k blank_cell in
-          let in-blanks = get_or-append (replicate blanks blank_cell) w blank_cell k (rw length-replicate (omega arith)) in
-          is_blank (rw (here l longer n, at, past-line, in-blanks) (get_or-replicate blanks k blank_cell blank_cell (omega arith)))
+          let past_line = get_or-append-add line (cells_after blanks w) k blank_cell in
+          let in_blanks = get_or-append (replicate blanks blank_cell) w blank_cell k (rw length-replicate (omega arith)) in
+          is_blank (rw (here l longer n, at, past_line, in_blanks) (get_or-replicate blanks k blank_cell blank_cell (omega arith)))
       go (no b) =
           let size : length longer ≡ length line + (blanks + length w) = simp (length-append, length-replicate) in
           in_word {i = length words}

@@ -2,6 +2,8 @@
 // that are written. What each type means is said in specs/; this file has the types that the
 // definitions and the calls share.
 
+#![tactic(auto)]
+
 mod filling;
 mod measuring;
 mod moving;
@@ -12,7 +14,7 @@ pub use filling::fill;
 use table::Refusal;
 
 // A sheet: how many cells a line holds, and how many lines a page.
-#[derive(Drop)]
+#[derive(Clone, Copy)]
 pub struct Sheet {
     pub width: usize,
     pub length: usize,
@@ -21,7 +23,7 @@ pub struct Sheet {
 // A place on the page: the cells of the line that is being filled, the lines that the page has,
 // whether the next word opens a paragraph, and what has been written so far, in bytes, lines and
 // pages.
-#[derive(Drop)]
+#[derive(Clone, Copy)]
 pub struct Place {
     pub column: usize,
     pub line: usize,
@@ -33,14 +35,14 @@ pub struct Place {
 
 // How far the gathering of signs has come: the place, and how many cells of a word wait to be
 // placed.
-#[derive(Drop)]
+#[derive(Clone, Copy)]
 struct Gathering {
     place: Place,
     cells: usize,
 }
 
 // What laying out answers: how many bytes, lines and pages there are, or the refusal.
-#[derive(Drop)]
+#[derive(Clone, Copy)]
 pub enum Filled {
     Done {
         written: usize,

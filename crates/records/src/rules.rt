@@ -15,7 +15,7 @@ use table::{Found, Section, Sections};
 
 // What the bytes of a part may be, where all of them go by one rule: classes up to a number, or the
 // letters of transitions, decisions and conditions.
-#[derive(Drop)]
+#[derive(Clone, Copy)]
 pub(crate) enum Kind {
     Class(u16),
     Transition,
@@ -24,7 +24,7 @@ pub(crate) enum Kind {
 }
 
 // The first wrong record of a section: its number, and its first wrong byte.
-#[derive(Drop)]
+#[derive(Clone, Copy)]
 pub(crate) enum WrongIn {
     AtByte(u16, u16),
     NoneWrong,
@@ -32,7 +32,7 @@ pub(crate) enum WrongIn {
 
 // The first wrong record of an image: its section, counted from 0 in image order, its number there,
 // and its first wrong byte.
-#[derive(Drop)]
+#[derive(Clone, Copy)]
 pub(crate) enum WrongRecord {
     At(u8, u16, u16),
     AllRight,

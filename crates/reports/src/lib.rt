@@ -4,6 +4,8 @@
 // what files hold, so the functions promise only that they are safe and end; the runs of the program
 // press are compared (tests/press).
 
+#![tactic(auto)]
+
 mod lining;
 mod loading;
 mod tabling;

@@ -2,8 +2,6 @@
 
 ghost use Rattle.std.specs.Prelude.{◌≤◌, length};
 
-use check::same;
-
 // Whether a character parts words.
 fn is_gap(c: u8) -> bool {
     (c == 32) | (c == 9) | (c == 13)
@@ -30,7 +28,23 @@ fn begins_with(line: &[u8], word: &[u8]) -> bool {
     if line.len() < end {
         return false;
     }
-    same(&line[from..end], word)
+    &line[from..end] == word
+}
+
+// Where the line that begins at `from` ends: at the first line feed from there on, or where all
+// ends.
+fn line_end(text: &[u8], from: usize) -> usize
+    requires { from ≤ length text.now }
+    ensures { (from ≤ result) × (result ≤ length text.now) }
+{
+    let mut end = from;
+    while end < text.len() {
+        if text[end] == 10 {
+            return end;
+        }
+        end += 1;
+    }
+    end
 }
 
 // The number of the line that has record `index` of this word, counted from 0, or 0 where there is
@@ -40,7 +54,7 @@ pub(crate) fn line_of(text: &[u8], word: &[u8], index: usize) -> usize {
     let mut passed: usize = 0;
     let mut from = 0;
     while from < text.len() {
-        let end = bytes::scan::find(text, from, text.len(), 10);
+        let end = line_end(text, from);
         if begins_with(&text[from..end], word) {
             if passed == index {
                 return line;

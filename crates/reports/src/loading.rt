@@ -1,13 +1,12 @@
 // Tables as arguments: an image, or a readable table, which is a file whose name ends in .table. Of a
 // readable table the image is made in memory first.
 
-use check::same;
-use desk::{front, read_argument, say, say_argument, say_number, say_refused};
+use desk::{argument, front, read_argument, say, say_argument, say_number, say_refused};
 use tables::{Drawn, Expected};
 
 // What came of it: the status, 0 where there is an image; the bytes of the image; and those of the
 // readable table, 0 where it is none.
-#[derive(Drop)]
+#[derive(Clone, Copy)]
 pub struct Loaded {
     pub status: i32,
     pub image: usize,
@@ -24,20 +23,23 @@ fn ended(status: i32) -> Loaded {
 
 // ---- An image
 
-fn table_long(i: usize) -> i32 {
-    say(b"press: refused 1 at 0: ");
-    say_argument(i);
-    say(b" has more than 32,768 bytes, and no right table image has more than 28,301\n");
+fn table_long(rt: &HostRuntime, i: usize) -> i32 {
+    say(rt, b"press: refused 1 at 0: ");
+    say_argument(rt, i);
+    say(
+        rt,
+        b" has more than 32,768 bytes, and no right table image has more than 28,301\n",
+    );
     1
 }
 
-fn load_image(i: usize, image: &mut [u8]) -> Loaded {
-    let reading = read_argument(i, image);
-    if reading.failed {
+fn load_image(rt: &HostRuntime, i: usize, image: &mut [u8]) -> Loaded {
+    let reading = read_argument(rt, i, image);
+    if reading.failed.is_some() {
         return ended(3);
     }
     if 32768 < reading.count {
-        return ended(table_long(i));
+        return ended(table_long(rt, i));
     }
     Loaded {
         status: 0,
@@ -48,55 +50,55 @@ fn load_image(i: usize, image: &mut [u8]) -> Loaded {
 
 // ---- A readable table
 
-fn say_line(stage: u8) {
+fn say_line(rt: &HostRuntime, stage: u8) {
     if stage == 0 {
-        say(b"dated or classes");
+        say(rt, b"dated or classes");
     } else if stage == 1 {
-        say(b"classes");
+        say(rt, b"classes");
     } else if stage == 2 {
-        say(b"variables");
+        say(rt, b"variables");
     } else if stage < 5 {
-        say(b"letter, entry, context, transition or decision");
+        say(rt, b"letter, entry, context, transition or decision");
     } else if stage == 5 {
-        say(b"entry, context, transition or decision");
+        say(rt, b"entry, context, transition or decision");
     } else if stage == 6 {
-        say(b"context, transition or decision");
+        say(rt, b"context, transition or decision");
     } else if stage == 7 {
-        say(b"transition or decision");
+        say(rt, b"transition or decision");
     } else {
-        say(b"decision");
+        say(rt, b"decision");
     }
 }
 
-fn say_from_to(least: u16, most: u16) {
-    say(b"a number from ");
-    say_number(least as usize);
-    say(b" to ");
-    say_number(most as usize);
+fn say_from_to(rt: &HostRuntime, least: u16, most: u16) {
+    say(rt, b"a number from ");
+    say_number(rt, least as usize);
+    say(rt, b" to ");
+    say_number(rt, most as usize);
 }
 
-fn say_expected(expected: Expected) {
+fn say_expected(rt: &HostRuntime, expected: Expected) {
     match expected {
-        Expected::Line(stage) => say_line(stage),
-        Expected::Fewer => say(b"no more lines of this kind"),
-        Expected::Number(least, most) => say_from_to(least, most),
-        Expected::Symbol => say(b"a symbol, 33 to 126, or _ for the blank"),
-        Expected::Escaped => say(b"#, _ or \\ after the backslash"),
-        Expected::WordEnd => say(b"the end of the word"),
+        Expected::Line(stage) => say_line(rt, stage),
+        Expected::Fewer => say(rt, b"no more lines of this kind"),
+        Expected::Number(least, most) => say_from_to(rt, least, most),
+        Expected::Symbol => say(rt, b"a symbol, 33 to 126, or _ for the blank"),
+        Expected::Escaped => say(rt, b"#, _ or \\ after the backslash"),
+        Expected::WordEnd => say(rt, b"the end of the word"),
         Expected::Row(n) => {
-            say_number(n as usize);
-            say(b" symbols in this row");
+            say_number(rt, n as usize);
+            say(rt, b" symbols in this row");
         }
-        Expected::Colon => say(b"a colon, and then the signs"),
-        Expected::LineEnd => say(b"the end of the line"),
-        Expected::Letter => say(b"a letter"),
-        Expected::Transition => say(b"a transition for each variable"),
+        Expected::Colon => say(rt, b"a colon, and then the signs"),
+        Expected::LineEnd => say(rt, b"the end of the line"),
+        Expected::Letter => say(rt, b"a letter"),
+        Expected::Transition => say(rt, b"a transition for each variable"),
     }
 }
 
 // Why no image was made of a readable table: 22, or 8, which no text of the form comes to here.
-fn not_made(drawn: Drawn) -> i32 {
-    say_refused(drawn.number(), drawn.place());
+fn not_made(rt: &HostRuntime, drawn: Drawn) -> i32 {
+    say_refused(rt, drawn.number(), drawn.place());
     if let Drawn::Unlike {
         at: _,
         line: row,
@@ -104,36 +106,39 @@ fn not_made(drawn: Drawn) -> i32 {
         expected: wanted,
     } = drawn
     {
-        say(b" (line ");
-        say_number(row);
-        say(b", column ");
-        say_number(character);
-        say(b"): expected ");
-        say_expected(wanted);
+        say(rt, b" (line ");
+        say_number(rt, row);
+        say(rt, b", column ");
+        say_number(rt, character);
+        say(rt, b"): expected ");
+        say_expected(rt, wanted);
     }
-    say(b"\n");
+    say(rt, b"\n");
     1
 }
 
-fn text_long(i: usize) -> i32 {
-    say(b"press: ");
-    say_argument(i);
-    say(b" has more than 262,144 bytes, which is more than this program has room for\n");
+fn text_long(rt: &HostRuntime, i: usize) -> i32 {
+    say(rt, b"press: ");
+    say_argument(rt, i);
+    say(
+        rt,
+        b" has more than 262,144 bytes, which is more than this program has room for\n",
+    );
     3
 }
 
 // The readable table that argument `i` names, whatever its name.
-pub fn load_readable(i: usize, text: &mut [u8], image: &mut [u8]) -> Loaded {
-    let reading = read_argument(i, text);
-    if reading.failed {
+pub fn load_readable(rt: &HostRuntime, i: usize, text: &mut [u8], image: &mut [u8]) -> Loaded {
+    let reading = read_argument(rt, i, text);
+    if reading.failed.is_some() {
         return ended(3);
     }
     if 262144 < reading.count {
-        return ended(text_long(i));
+        return ended(text_long(rt, i));
     }
     let drawn = tables::make(front(text, reading.count), image);
     if drawn.number() != 0 {
-        return ended(not_made(drawn));
+        return ended(not_made(rt, drawn));
     }
     Loaded {
         status: 0,
@@ -150,15 +155,15 @@ fn is_readable(name: &[u8]) -> bool {
         return false;
     }
     let from = length - 6;
-    same(&name[from..], b".table")
+    &name[from..] == b".table".as_slice()
 }
 
 // The table that argument `i` names.
-pub fn load(i: usize, text: &mut [u8], image: &mut [u8]) -> Loaded {
+pub fn load(rt: &HostRuntime, i: usize, text: &mut [u8], image: &mut [u8]) -> Loaded {
     let mut name = io::buffer();
-    let length = os::arg(i, &mut name);
+    let length = argument(rt, i, &mut name);
     if is_readable(&name[..length]) {
-        return load_readable(i, text, image);
+        return load_readable(rt, i, text, image);
     }
-    load_image(i, image)
+    load_image(rt, i, image)
 }

@@ -122,8 +122,8 @@ two_bytes_changed image other accepts accepts' (bytes_changed before between aft
     let t = same_total _ _ accepts accepts' same.0 in
     let both = total_both before between after a b c d in
     let a_small = u.is_byte in
-    let c-small = u.other_is_byte in
-    let b-small = v.is_byte in
+    let c_small = u.other_is_byte in
+    let b_small = v.is_byte in
     let d_small = v.other_is_byte in
     let sum : a + b ≡ c + d = omega arith in
     let few = few_after before (between ++ b ∷ after) a accepts in

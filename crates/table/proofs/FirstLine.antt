@@ -2,7 +2,7 @@
 -- lines of one turn give one number and place; then the first line is one, and the answer gives it.
 use Prim.Native.Nat.{ℕ, suc, ◌<◌}
 use mathlib.Core.Logic.{◌↔◌}
-use mathlib.Core.Path.{◌≡◌, sym, ◌∙◌, subst, subst₂}
+use mathlib.Core.Path.{◌≡◌, subst, subst₂}
 use native.Mathlib.Decide.{dec_lt}
 use native.Mathlib.Omega.{arith}
 use Rattle.table.specs.Numbers.{number_done}

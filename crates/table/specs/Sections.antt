@@ -45,13 +45,13 @@ entry_size_in image = cond (is_dated image) dated_entry_size entry_size
 
 -- section `k`, from its own distance to the next one's
 unfoldable pub section_at : List ℕ → ℕ → ℕ → Section
-section_at image k recordSize =
-    record { start = trailer_at image - distance image k; size = recordSize; records = (distance image k - distance image (k + 1)) / recordSize }
+section_at image k record_size =
+    record { start = trailer_at image - distance image k; size = record_size; records = (distance image k - distance image (k + 1)) / record_size }
 
 -- the last section, from its distance to the trailer
 unfoldable pub last_section : List ℕ → ℕ → Section
-last_section image recordSize =
-    record { start = trailer_at image - distance image 4; size = recordSize; records = distance image 4 / recordSize }
+last_section image record_size =
+    record { start = trailer_at image - distance image 4; size = record_size; records = distance image 4 / record_size }
 
 unfoldable pub sections_in : List ℕ → Sections
 sections_in image =

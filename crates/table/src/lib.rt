@@ -3,11 +3,13 @@
 // places. What an image means, and what is wrong with one, is said in specs/ for all the crates
 // above, and the laws about that are in proofs/. `framing` reads images, and `judge` judges them.
 
+#![tactic(auto)]
+
 mod refusing;
 
 // One section of the image: the offset of its first byte, the bytes of one record, and how many
 // records it has.
-#[derive(Drop)]
+#[derive(Clone, Copy)]
 pub struct Section {
     pub start: u16,
     pub size: u16,
@@ -16,7 +18,7 @@ pub struct Section {
 
 // The five sections of an image, in the order in which they lie, and the two numbers of the
 // trailer.
-#[derive(Drop)]
+#[derive(Clone, Copy)]
 pub struct Sections {
     pub alphabet: Section,
     pub contractions: Section,
@@ -28,7 +30,7 @@ pub struct Sections {
 }
 
 // The years in which an entry is in force, both counted in.
-#[derive(Drop)]
+#[derive(Clone, Copy)]
 pub struct Years {
     pub first: u16,
     pub last: u16,
@@ -36,7 +38,7 @@ pub struct Years {
 
 // Why a call is refused, whichever it is: the paper's table of refusals, each with its place where
 // that isn't fixed.
-#[derive(Drop)]
+#[derive(Clone, Copy)]
 pub enum Refusal {
     Frame,
     Alphabet(usize),
@@ -56,7 +58,7 @@ pub enum Refusal {
 }
 
 // What a check of an image answers.
-#[derive(Drop)]
+#[derive(Clone, Copy)]
 pub enum Verdict {
     Accepted,
     Refused(Refusal),
@@ -64,7 +66,7 @@ pub enum Verdict {
 
 // What a search answers: the number of a record in its section, of a byte in its record, or a place
 // of a text.
-#[derive(Drop)]
+#[derive(Clone, Copy)]
 pub enum Found {
     At(u16),
     Nothing,

@@ -50,7 +50,7 @@ module _ (d : Draft) (body : List ℕ) where
 
   number_read : (at n : ℕ) → get_or (trailer_for d) at 0 ≡ n % 256 → get_or (trailer_for d) (at + 1) 0 ≡ n / 256 → number_at image (trailer_at image + at) ≡ n
   unfolding number_at
-  number_read at n is-low is-high =
+  number_read at n is_low is_high =
       let low = trailer_byte at in
       let high = trailer_byte (at + 1) in
       let whole = mod-add-div n 256 in

@@ -148,12 +148,12 @@ unfolding lengths_right sections_in section_at last_section trailer_at
 spans_in image framed =
     let s = sections_in image in
     let f = (frame_right_lem image).0 framed in
-    let each = all_five _ _ _ _ _ (lengths_right_lem image framed) in
     let d0 = f.first_distance in
     let d1 = f.never_rise 0 (omega arith) in
     let d2 = f.never_rise 1 (omega arith) in
     let d3 = f.never_rise 2 (omega arith) in
     let d4 = f.never_rise 3 (omega arith) in
+    let each = all_five _ _ _ _ _ (lengths_right_lem image framed) in
     let there = f.trailer_there in
     let a = next_start (trailer_at image) (distance image 0) (distance image 1) (span s.alphabet) (omega arith) d1 (filled s.alphabet _ _ _ each.0) in
     let b = next_start (trailer_at image) (distance image 1) (distance image 2) (span s.contractions) (omega arith) d2 (filled s.contractions _ _ _ each.1) in
@@ -303,14 +303,14 @@ module _ (image : List ℕ) (accepts : verdict_of image ≡ Accepted) where
       let classes = numbers.0 in
       let variables = numbers.1 in
       let first_mark_lem = framed.first_mark_lem in
-      let last-mark = marked.last_byte in
+      let last_mark = marked.last_byte in
       let eleven : byte_at image (trailer_at image + 10 + 1) ≡ byte_at image (trailer_at image + 11) = ap (byte_at image) (omega arith) in
       let twelve : byte_at image (trailer_at image + 10 + 2) ≡ byte_at image (trailer_at image + 12) = ap (byte_at image) (omega arith) in
       let thirteen : byte_at image (trailer_at image + 10 + 3) ≡ byte_at image (trailer_at image + 13) = ap (byte_at image) (omega arith) in
       back
       ∙ regroup (number_bytes (distance image 0)) (number_bytes (distance image 1)) (number_bytes (distance image 2)) (number_bytes (distance image 3))
       (number_bytes (distance image 4)) _
-      ∙ rw (d.first, d.second, d.third, d.fourth, d.fifth, classes, eleven, variables, twelve, first_mark_lem, thirteen, last-mark)
+      ∙ rw (d.first, d.second, d.third, d.fourth, d.fifth, classes, eleven, variables, twelve, first_mark_lem, thirteen, last_mark)
 
   pub image_back : Bytes image → (stage : ℕ) → image ≡ section_bytes image (sections_of image) ++ trailer_for (draft_for (sections_of image) stage)
   image_back bytes stage =

@@ -176,16 +176,16 @@ mark_ends width mark value n rest = go (eqb n value) refl
 pub mark_back : (width mark value n : ℕ) (rest : List ℕ) → is_digit mark ≡ false → is_gap mark ≡ false → n ≤ most_byte → ends_word rest ≡ true
     → mark_or mark value (after_gap (shown_mark_or width mark value n ++ rest)) ≡ got (n ∷ []) rest
 unfolding shown_mark_or mark_or whole ends_word
-mark_back width mark value n rest noDigit noGap low e = go (eqb n value) refl
+mark_back width mark value n rest without_digit without_gap low e = go (eqb n value) refl
   where
     go : (t : Bool) → eqb n value ≡ t → mark_or mark value (after_gap (shown_mark_or width mark value n ++ rest)) ≡ got (n ∷ []) rest
     go true same =
         rw (same, shown_mark_or)
-        (rw (rightward_back width (mark ∷ []) rest noGap, eq-eqb mark mark refl, e) (ap (λ (m : ℕ). got (m ∷ []) rest) (sym (eqb-true n value same))))
+        (rw (rightward_back width (mark ∷ []) rest without_gap, eq-eqb mark mark refl, e) (ap (λ (m : ℕ). got (m ∷ []) rest) (sym (eqb-true n value same))))
     go false other =
         rw (other, shown_mark_or)
         (rw (shown_number_front width n rest)
-        (digits_no_mark mark value (decimal n ++ rest) noDigit (decimal_start n rest) ∙ number_back 0 most_byte n rest (omega arith) low (omega arith) e))
+        (digits_no_mark mark value (decimal n ++ rest) without_digit (decimal_start n rest) ∙ number_back 0 most_byte n rest (omega arith) low (omega arith) e))
 
 -- ---- Symbols
 

@@ -4,7 +4,7 @@
 ghost use Rattle.std.specs.Prelude.{true, cond, ◌≡◌, ℕ, ◌≤◌, length, drop};
 ghost use Rattle.form.specs.Words.{is_word};
 ghost use Rattle.form.specs.Fields.{spelled, fields_of, sizes_of};
-ghost use Rattle.form.specs.Reading.{rank as rank_of, in_order, has_room, with_line, one as oneWhere, start as start_of, keyword_in, keywords, line_of, read_line};
+ghost use Rattle.form.specs.Reading.{rank as rank_of, in_order, has_room, with_line, one as one_where, start as start_of, keyword_in, keywords, line_of, read_line};
 ghost use Rattle.tables.specs.inside.Steps.{known_keyword, told_line, ToldWithin};
 ghost use Rattle.form.specs.inside.Steps.{Modest};
 
@@ -29,7 +29,7 @@ pub(crate) fn rank(keyword: Keyword) -> u8
 }
 
 // Whether such a line may stand after this stage.
-fn in_order_lem(draft: Draft, keyword: Keyword) -> bool
+fn in_order(draft: Draft, keyword: Keyword) -> bool
     ensures { result ≡ in_order draft keyword }
 {
     let stage = draft.stage;
@@ -62,7 +62,7 @@ fn has_room(draft: Draft, keyword: Keyword) -> bool
 }
 
 fn one(test: bool) -> u16
-    ensures { result ≡ oneWhere test }
+    ensures { result ≡ one_where test }
 {
     if test {
         return 1;
@@ -168,7 +168,7 @@ fn line_of(draft: Draft, keyword: Keyword, line: &[u8], at: usize, rec: &mut [u8
     requires { Modest draft × (at ≤ length line.now) × (is_word (spelled keyword) (drop at line.now) ≡ true) }
     ensures { (told_line line.now rec.new result ≡ line_of draft keyword (drop at line.now)) × ToldWithin line.now result }
 {
-    if !in_order_lem(draft, keyword) {
+    if !in_order(draft, keyword) {
         return Told::Unlike(Expected::Line(draft.stage), at);
     }
     if !has_room(draft, keyword) {

@@ -7,8 +7,7 @@ use table::Verdict;
 
 // Checks a table image, of either form, and stores the verdict's two values: number and place, 0
 // and 0 where it is accepted. It needs 1,700 bytes of stack, whatever it is asked (bench/stack).
-#[unsafe(no_mangle)]
-pub extern "C" fn tlopahuexi_check(image: &[u8], answer: &mut [u64; 2])
+pub fn tlopahuexi_check(image: &[u8], answer: &mut [u64; 2])
     ensures { Judged image.now answer.new }
 {
     match check(image) {

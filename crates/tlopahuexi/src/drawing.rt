@@ -8,8 +8,7 @@ use tables::{make, show};
 // Writes an accepted table image in readable form, and stores the answer's five values: number,
 // place, bytes written, and line and column, which are 0. A refused call changes no byte of `out`,
 // and a done one none beyond the bytes written.
-#[unsafe(no_mangle)]
-pub extern "C" fn tlopahuexi_show(image: &[u8], out: &mut [u8], answer: &mut [u64; 5])
+pub fn tlopahuexi_show(image: &[u8], out: &mut [u8], answer: &mut [u64; 5])
     ensures { Redrawn (showing image.now out.old) out.new answer.new }
 {
     let a = show(image, out);
@@ -24,8 +23,7 @@ pub extern "C" fn tlopahuexi_show(image: &[u8], out: &mut [u8], answer: &mut [u6
 
 // Writes the image of a readable table, and stores the answer's five values: line and column are
 // those of the first byte that isn't of the form (22), and else 0.
-#[unsafe(no_mangle)]
-pub extern "C" fn tlopahuexi_make(text: &[u8], out: &mut [u8], answer: &mut [u64; 5])
+pub fn tlopahuexi_make(text: &[u8], out: &mut [u8], answer: &mut [u64; 5])
     ensures { Redrawn (making text.now out.old) out.new answer.new }
 {
     let a = make(text, out);

@@ -9,8 +9,7 @@ use pages::Sheet;
 // Writes the embosser file of a layout, which is judged first, and stores the answer's three
 // values: number, place, bytes written. A refused call changes no byte of `out`, and a done one none
 // beyond the bytes written. It needs 500 bytes of stack, whatever it is asked (bench/stack).
-#[unsafe(no_mangle)]
-pub extern "C" fn tlopahuexi_write_file(
+pub fn tlopahuexi_write_file(
     layout: &[u8],
     width: usize,
     length: usize,
@@ -32,8 +31,7 @@ pub extern "C" fn tlopahuexi_write_file(
 
 // Reads an embosser file as the layout that it was written from, as `tlopahuexi_write_file` writes
 // one.
-#[unsafe(no_mangle)]
-pub extern "C" fn tlopahuexi_read_file(
+pub fn tlopahuexi_read_file(
     file: &[u8],
     width: usize,
     length: usize,

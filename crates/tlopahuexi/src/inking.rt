@@ -6,8 +6,7 @@ use ink::mark;
 
 // Marks inkprint, and stores the answer's three values: number, place, bytes written. A refused call
 // changes no byte of `out`, and a done one none beyond the bytes written.
-#[unsafe(no_mangle)]
-pub extern "C" fn tlopahuexi_mark(text: &[u8], out: &mut [u8], answer: &mut [u64; 3])
+pub fn tlopahuexi_mark(text: &[u8], out: &mut [u8], answer: &mut [u64; 3])
     ensures { Inkprinted text.now out.old out.new answer.new }
 {
     let a = mark(text, out);

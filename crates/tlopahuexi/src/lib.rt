@@ -1,7 +1,7 @@
-// The calls for programs in other languages: `rt staticlib tlopahuexi` writes an archive that
-// defines them under their plain names, and include/tlopahuexi.h declares them. A slice crosses as
-// its address, never null, and its length; bytes that are lent as `out` or `answer` are lent as
-// nothing else in the same call.
+// The calls for programs in other languages, as functions of Rattle: each takes numbers and lent
+// bytes alone, and stores its answer's values in an array. `tlopahuexi_c` exports them.
+
+#![tactic(auto)]
 
 ghost use Rattle.calls.specs.Promises.{Pressed};
 
@@ -27,8 +27,7 @@ use translation::Setting;
 // pieces, lines, pages. A refused call changes no byte of `out`, and a done one none beyond the
 // bytes written. It needs 84,000 bytes of stack, whatever it is asked (bench/stack): a thread that
 // calls it wants 96 KiB at least.
-#[unsafe(no_mangle)]
-pub extern "C" fn tlopahuexi_emboss(
+pub fn tlopahuexi_emboss(
     image: &[u8],
     text: &[u8],
     following: u8,

@@ -9,8 +9,7 @@ use movers::{date, undate};
 // answer's three values: number, place, bytes written. A refused call changes no byte of `out`, and
 // a done one none beyond the bytes written. It needs 1,700 bytes of stack, whatever it is asked
 // (bench/stack).
-#[unsafe(no_mangle)]
-pub extern "C" fn tlopahuexi_date(image: &[u8], out: &mut [u8], answer: &mut [u64; 3])
+pub fn tlopahuexi_date(image: &[u8], out: &mut [u8], answer: &mut [u64; 3])
     ensures { Recast (dating image.now out.old) out.new answer.new }
 {
     let a = date(image, out);
@@ -19,8 +18,7 @@ pub extern "C" fn tlopahuexi_date(image: &[u8], out: &mut [u8], answer: &mut [u6
 
 // Writes a table with years, whose entries are all in force always, in the form without, as
 // `tlopahuexi_date` writes the other.
-#[unsafe(no_mangle)]
-pub extern "C" fn tlopahuexi_undate(image: &[u8], out: &mut [u8], answer: &mut [u64; 3])
+pub fn tlopahuexi_undate(image: &[u8], out: &mut [u8], answer: &mut [u64; 3])
     ensures { Recast (undating image.now out.old) out.new answer.new }
 {
     let a = undate(image, out);

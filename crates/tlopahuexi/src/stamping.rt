@@ -7,8 +7,7 @@ use stamp::stamp;
 // Stamps a table image, of either form, and stores the answer's four values: number, place, and the
 // two numbers of the stamp, each of 32 bits; a refused image has the stamp 0 and 0. It needs 1,700
 // bytes of stack, whatever it is asked (bench/stack).
-#[unsafe(no_mangle)]
-pub extern "C" fn tlopahuexi_stamp(image: &[u8], answer: &mut [u64; 4])
+pub fn tlopahuexi_stamp(image: &[u8], answer: &mut [u64; 4])
     ensures { Marked image.now answer.new }
 {
     let a = stamp(image);

@@ -3,7 +3,6 @@
 use Prim.Native.Nat.{ℕ, zero, suc, ◌<◌, ◌≤◌}
 use mathlib.Core.Bool.{Bool, true, false}
 use mathlib.Core.List.{List, [], ◌∷◌, flatten, map}
-use mathlib.Core.Logic.{◌⊎◌, inl, inr}
 use mathlib.Core.Option.{Option, none, some}
 use mathlib.Core.Path.{◌≡◌, refl, sym, ◌∙◌, ap}
 use native.Mathlib.Decide.{dec_le}
@@ -21,9 +20,9 @@ use Rattle.table.proofs.Sound.{accepted_sound}
 use Rattle.translation.proofs.Consumed.{consumed}
 use Rattle.translation.specs.Collapse.{collapsed}
 use Rattle.translation.specs.Letters.{class_of, is_known, first_unknown}
-use Rattle.translation.specs.Decide.{States, start_states, moved}
+use Rattle.translation.specs.Decide.{States, start_states}
 use Rattle.translation.specs.Choose.{class_after, context_holds, admissible, entry, choice}
-use Rattle.translation.specs.Pieces.{Piece, characters, piece_by, front_piece, pieces_from, pieces_in, pieces_of}
+use Rattle.translation.specs.Pieces.{characters, piece_by, front_piece, pieces_from, pieces_in, pieces_of}
 use Rattle.translation.specs.Translate.{Result, refused, translate_by, translate_on}
 use Rattle.translation.specs.declared.Setting.{Setting}
 use Rattle.translation.specs.declared.Terms.{Terms}

@@ -82,7 +82,7 @@ fn is_unknown(image: &[u8], s: Sections, c: u8) -> bool
 // The first character of the text as lent that has no record.
 pub(crate) fn first_unknown(image: &[u8], s: Sections, text: &[u8]) -> Found
     requires opened { Opened image.now s }
-    requires text_len_bound { length text.now ≤ most_text }
+    requires short { length text.now ≤ most_text }
     ensures { result ≡ found (first_unknown (table_in image.now s).letters text.now) }
 {
     let mut i = 0;

@@ -38,8 +38,8 @@ fn starts(string: &[u8], rest: &[u8]) -> bool
 
 // Whether the whole string of entry `k` begins the rest.
 fn begins(image: &[u8], entries: Section, k: u16, rest: &[u8]) -> bool
-    requires entry_size_in_bounds { offset entries k + entry_size ≤ length image.now }
-    requires between { Between least_length most_length (record_byte image.now entries k length_byte) }
+    requires lies { offset entries k + entry_size ≤ length image.now }
+    requires sized { Between least_length most_length (record_byte image.now entries k length_byte) }
     ensures { result ≡ begins (record_part image.now entries k string_byte (record_byte image.now entries k length_byte))
         rest.now }
 {
@@ -77,7 +77,7 @@ fn holds(c: u8, classes: &[u8]) -> bool
 // entry's string.
 fn context_holds(image: &[u8], s: Sections, setting: Setting, k: u16, rest: &[u8]) -> bool
     requires opened { Opened image.now s }
-    requires k_lt_records { k < s.contractions.records }
+    requires there { k < s.contractions.records }
     ensures { result ≡ context_holds (table_in image.now s) setting rest.now (entry_at image.now s k) }
 {
     let entries = s.contractions;
@@ -106,7 +106,7 @@ fn in_force(image: &[u8], entries: Section, k: u16, year: u16) -> bool
 // its right context holds, and the decision table accepts its class.
 fn admits(image: &[u8], s: Sections, setting: Setting, states: States, k: u16, rest: &[u8]) -> bool
     requires opened { Opened image.now s }
-    requires k_lt_records { k < s.contractions.records }
+    requires there { k < s.contractions.records }
     ensures { result ≡ admissible (table_in image.now s) setting (states_in s states) rest.now
         (entry (table_in image.now s) k) }
 {
@@ -138,7 +138,7 @@ pub(crate) fn search(
     rest: &[u8],
 ) -> Found
     requires opened { Opened image.now s }
-    requires rest_nonzero { 0 < length rest.now }
+    requires more { 0 < length rest.now }
     ensures { result ≡ found (choice (table_in image.now s) setting (states_in s states) rest.now) }
 {
     let entries = s.contractions;

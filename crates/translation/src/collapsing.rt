@@ -7,7 +7,7 @@ ghost use Rattle.translation.specs.inside.Making.{Thins, WroteUntil};
 
 // How far collapsing has come: how many characters are written, and how many blanks are kept of a
 // run that stands here.
-#[derive(Drop)]
+#[derive(Clone, Copy)]
 struct Run {
     written: usize,
     kept: u8,

@@ -12,7 +12,7 @@ use crate::variables::States;
 use table::{Section, Sections};
 
 // What a column says of a class.
-#[derive(Drop)]
+#[derive(Clone, Copy)]
 enum Ruling {
     Accept,
     Reject,
@@ -56,7 +56,7 @@ fn meets(b: u8, was: bool) -> bool
 // Whether variable `v` meets its condition in a column.
 fn condition_holds(image: &[u8], s: Sections, states: States, k: u16, v: u16) -> bool
     requires opened { Opened image.now s }
-    requires k_lt_records { (k < s.decisions.records) × (v < s.variables) }
+    requires there { (k < s.decisions.records) × (v < s.variables) }
     ensures { result ≡ condition_holds (get_or (column_at image.now s k).conditions v dash) (state (states_in s states) v) }
 {
     let decisions = s.decisions;
@@ -69,7 +69,7 @@ fn condition_holds(image: &[u8], s: Sections, states: States, k: u16, v: u16) ->
 // Whether a column's conditions all hold.
 fn conditions_hold(image: &[u8], s: Sections, states: States, k: u16) -> bool
     requires opened { Opened image.now s }
-    requires k_lt_records { k < s.decisions.records }
+    requires there { k < s.decisions.records }
     ensures { result ≡ conditions_hold (column_at image.now s k) (states_in s states) }
 {
     let variables = s.variables;
@@ -86,7 +86,7 @@ fn conditions_hold(image: &[u8], s: Sections, states: States, k: u16) -> bool
 // What a column says of a class.
 fn rule(image: &[u8], s: Sections, states: States, k: u16, c: u8) -> Ruling
     requires opened { Opened image.now s }
-    requires k_lt_records { k < s.decisions.records }
+    requires there { k < s.decisions.records }
     ensures { said result ≡ ruling (column_at image.now s k) (states_in s states) c }
 {
     let decisions = s.decisions;

@@ -2,6 +2,8 @@
 // their signs. What each type means is said in specs/; this file has the types that the definitions
 // and the calls share.
 
+#![tactic(auto)]
+
 mod alphabet;
 mod choosing;
 mod collapsing;
@@ -15,7 +17,7 @@ pub use translating::translate;
 
 // What a translation is told besides the table and the text: the symbol that follows the end of the
 // text, which is looked at and never consumed, and the year by whose entries the text is printed.
-#[derive(Drop)]
+#[derive(Clone, Copy)]
 pub struct Setting {
     pub following: u8,
     pub year: u16,
@@ -23,14 +25,14 @@ pub struct Setting {
 
 // On which terms a text is translated: its setting, and what the caller's own checks say, which
 // come after the table's and before the text's.
-#[derive(Drop)]
+#[derive(Clone, Copy)]
 pub struct Terms {
     pub setting: Setting,
     pub also: Verdict,
 }
 
 // What a translation answers: how many pieces and how many signs, or the refusal.
-#[derive(Drop)]
+#[derive(Clone, Copy)]
 pub enum Translation {
     Done { pieces: usize, signs: usize },
     Refused(Refusal),

@@ -17,7 +17,7 @@ use crate::variables::{States, moved, start};
 use table::{Found, Sections};
 
 // A piece that is made: how many characters it takes, its class, and the place after its signs.
-#[derive(Drop)]
+#[derive(Clone, Copy)]
 struct Piece {
     shift: usize,
     class: u8,
@@ -25,7 +25,7 @@ struct Piece {
 }
 
 // How many pieces a text has, and how many signs they print.
-#[derive(Drop)]
+#[derive(Clone, Copy)]
 pub(crate) struct Counts {
     pub(crate) pieces: usize,
     pub(crate) signs: usize,
@@ -67,7 +67,7 @@ fn print_all(list: &[u8], signs: &mut [u8], at: usize) -> usize
 // The piece of entry `k`: its shift, its class and its signs.
 fn by_entry(image: &[u8], s: Sections, k: u16, signs: &mut [u8], at: usize) -> Piece
     requires opened { Opened image.now s }
-    requires k_lt_records { (k < s.contractions.records) × (at + entry_signs ≤ length signs.old) }
+    requires there { (k < s.contractions.records) × (at + entry_signs ≤ length signs.old) }
     ensures { MadeByEntry (entry_at image.now s k) signs.old at signs.new result }
 {
     let entries = s.contractions;
@@ -82,7 +82,7 @@ fn by_entry(image: &[u8], s: Sections, k: u16, signs: &mut [u8], at: usize) -> P
 // The piece of a character alone: its class and its sign.
 fn by_letter(image: &[u8], s: Sections, c: u8, signs: &mut [u8], at: usize) -> Piece
     requires opened { Opened image.now s }
-    requires at_in_bounds { at < length signs.old }
+    requires room { at < length signs.old }
     ensures { MadeByLetter (letter_for (table_in image.now s).letters c) signs.old at signs.new result }
 {
     let next = print(sign_of(image, s, c), signs, at);
@@ -105,7 +105,7 @@ fn front_piece(
     at: usize,
 ) -> Piece
     requires opened { Opened image.now s }
-    requires rest_nonzero { (0 < length rest.now) × (at + entry_signs ≤ length signs.old) }
+    requires more { (0 < length rest.now) × (at + entry_signs ≤ length signs.old) }
     ensures { MadeAs (front_piece (table_in image.now s) setting (states_in s states) rest.now)
         signs.old at signs.new result }
 {
@@ -124,7 +124,7 @@ pub(crate) fn consume(
     signs: &mut [u8],
 ) -> Counts
     requires opened { Opened image.now s }
-    requires text_in_bounds { entry_signs * length text.now ≤ length signs.old }
+    requires room { entry_signs * length text.now ≤ length signs.old }
     ensures { Consumed (pieces_in (table_in image.now s) setting text.now) signs.old signs.new result }
 {
     let mut states = start();

@@ -28,7 +28,7 @@ fn translate_by(
     signs: &mut [u8],
 ) -> Translation
     requires opened { Opened image.now s }
-    requires most_text_in_bounds { entry_signs * most_text ≤ length signs.old }
+    requires room { entry_signs * most_text ≤ length signs.old }
     ensures { Ends (handed signs.old (translate_by (table_in image.now s) setting text.now)) result signs.new }
 {
     if 16384 < text.len() {

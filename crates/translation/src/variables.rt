@@ -12,7 +12,7 @@ use crate::deciding::byte_of_class;
 use table::Sections;
 
 // The states of the variables, as a value: yes or no for each of at most fifteen.
-#[derive(Drop)]
+#[derive(Clone, Copy)]
 pub(crate) struct States {
     pub(crate) yes: [bool; 15],
 }

@@ -1,5 +1,5 @@
 -- What the walk over the lines of a text goes by: where a line ends, and what one line makes of the draft and of the output. No heading of docs/TABLES.md.
-use Rattle.std.specs.Prelude.{ℕ, zero, suc, ◌+◌, ◌-◌, true, false, List, [], ◌∷◌, ◌≡◌, eqb, length, get_or, drop}
+use Rattle.std.specs.Prelude.{ℕ, suc, ◌+◌, ◌-◌, true, false, List, [], ◌∷◌, ◌≡◌, eqb, length, get_or, drop}
 use Rattle.form.specs.Numbers.{line_feed}
 use Rattle.form.specs.Reading.{Line, nothing, says, unlike, with_line, image_bytes, reading}
 use Rattle.tables.specs.inside.Steps.{walked_to}

@@ -1,0 +1,6 @@
+-- `ink::marking::mark` meets its contract: each way is a case of the call.
+use Rattle.inkprint.proofs.Calls.{inks_long}
+use Rattle.ink.proofs.marking.mark.Goals as goal
+
+pub returns-then-text-gt1073741824 : goal.returns-then-text-gt1073741824
+returns-then-text-gt1073741824 c = inks_long _ _ c.if-text-gt1073741824.true

@@ -1,0 +1,33 @@
+-- `pages::writing::put_run` meets its contract. The loop's invariant: the first j cells are stored.
+use Prim.Native.Nat.{ℕ, ◌+◌, ◌<◌}
+use mathlib.Core.Path.{refl, ◌∙◌, ap}
+use native.Mathlib.Omega.{arith}
+use lib.ListN.{length, get_or, set, length-set}
+use lib.Seq.{sets, take_all}
+use Rattle.table.proofs.Wrote.{run_more}
+use mathlib.Core.List.{List}
+use Rattle.pages.proofs.writing.put_run.Goals as goal
+
+pub loop-j-init : goal.loop-j-init
+loop-j-init c = (omega arith, refl, refl)
+
+pub loop-j-preserved : goal.loop-j-preserved
+loop-j-preserved c =
+    let a = c.args in
+    let l = c.loop-j in
+    let v = l.invariant in
+    let there : l.j < length a.cells.now = omega arith in
+    let s = length-set l.out (a.at + l.j) (get_or a.cells.now l.j 0) in (
+      omega arith,
+      s ∙ v.1,
+      ap (λ (o : List ℕ). set o (a.at + l.j) (get_or a.cells.now l.j 0)) v.2 ∙ run_more a.out.now a.at a.cells.now l.j there,
+    )
+
+pub shape_of-out : goal.shape_of-out
+shape_of-out c = c.loop-j.invariant.1
+
+pub returns : goal.returns
+returns c =
+    let a = c.args in
+    let v = c.loop-j.invariant in
+    record { leaves = v.2 ∙ ap (λ (r : List ℕ). sets a.out.now a.at r) (take_all c.loop-j.j a.cells.now (omega arith)) }

@@ -1,0 +1,8 @@
+-- `tlopahuexi::filing::tlopahuexi_read_file` meets its contract: proofs/Told.antt, from what `read_file` and the answer's methods promise.
+use borrow.Author.Rules.{rules}
+use Rattle.calls.proofs.Told.{converted}
+use Rattle.tlopahuexi.proofs.filing.tlopahuexi_read_file.Goals as goal
+
+pub returns : goal.returns
+returns c =
+    converted c.read_file-a.ensures c.number.ensures c.place.ensures c.written.ensures
