@@ -27,6 +27,16 @@ BOUND = re.compile(rf"(?:λ|[({{])\s*((?:{NAME} +)*{NAME}) *:|λ\s*((?:{NAME} ?)
 LENT = re.compile(r"(?m)^use (?!Rattle\.(?!std\b|core\b|io\b|os\b|libc\b))[^\s{]+\{([^}]*)\}")
 # Lemmas that the toolchain's port has spelled as the definitions below them are to be.
 LEMMAS = "is_digit frame_right letter_at string_bytes in_order goes_on walked_to written_as wrong_byte entry_read fields_read found_in".split()
+# Names that no declaration shows: aliases of imports, and variables of patterns.
+ALSO = """
+bytesOfSigns notMade recordSize numberOfStamped placeOfStamped numberOfMoved placeOfMoved
+writtenOfMoved numberOfInked placeOfInked writtenOfInked oneWhere numberOfAnswer placeOfAnswer
+writtenOfAnswer numberOfFiled placeOfFiled writtenOfFiled wordEnds symbolIn noMark oneByte stepTo
+typographicOf stringIn classedIn signsIn yearIn yearsIn tailIn computing-table back-again
+no-trailing inside-other computing-pages is-part is-p m-other last-mark is-low is-high
+computing-translation no-column no-more' found-wrong past-line in-blanks is-q c-small
+b-small not-good' its-turn is-to is-next
+""".split()
 GOAL = re.compile(r"\s*(?:tie\.|\{M)")
 SPAN = re.compile(r"\x60[^\x60\n]+\x60")
 RUST = re.compile(r'//[^\n]*|b?"(?:\\.|[^"\\])*"|b?\'(?:\\.|[^\'\\\n])\'|[\w\']+(?:-[\w\']+)*|\s+|.', re.S)
@@ -76,16 +86,19 @@ def declared_in(text, is_proof):
 
 
 def main():
-    own, lent, goals_of, words_of = set(), set(), {}, {}
+    own, lent, goals_of, words_of, lent_to = set(), set(), {}, {}, {}
     for path in texts(".antt"):
         text = read(path)
         names, goals = declared_in(text, path.endswith("/Proof.antt"))
         own.update(names)
-        for items in LENT.findall(text):
-            lent.update(re.findall(NAME, items))
+        lent_to[path] = {it for items in LENT.findall(text) for it in re.findall(NAME, items)}
+        lent.update(lent_to[path])
         goals_of[path] = goals
         words_of[path] = set(re.findall(NAME, QUIET.sub(" ", text)))
     table = {it: in_snake_case(it) for it in sorted(own) if is_old(it)}
+
+    table.update({it: in_snake_case(it) for it in ALSO if any(it in words for words in words_of.values()) or "-" not in it})
+    table.update(noDigit="without_digit", noGap="without_gap")
 
     # Names that fall together in a file: a lemma gives way to a definition.
     met = collections.defaultdict(set)
@@ -109,7 +122,8 @@ def main():
         return
 
     def turned(text, path=""):
-        stay = goals_of.get(path, set())
+        # The goals of a function's proof stay, and what a text has of the library.
+        stay = goals_of.get(path, set()) | lent_to.get(path, set())
         in_proof = path.endswith("/Proof.antt")
 
         def word(m):
@@ -143,7 +157,7 @@ def main():
             it = m[0]
             if it.startswith("//"):
                 return comment(it)
-            return table.get(it, it)
+            return it if it in LEMMAS else table.get(it, it)
 
         write(path, text, RUST.sub(piece, text))
     # Texts that the toolchain's port doesn't read: a name may also have been turned by it.
