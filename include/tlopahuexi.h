@@ -83,7 +83,7 @@ void tlopahuexi_emboss(const uint8_t *image, uint64_t image_length, const uint8_
    width, length  W and P
    out            gets the file, a character for each byte of the layout
    answer         number, place, bytes written
-   Refusals: 5, 16, 8. It needs 500 bytes of stack. */
+   Refusals: 5, 16, 8. It needs 600 bytes of stack. */
 void tlopahuexi_write_file(const uint8_t *layout, uint64_t layout_length, uint64_t width, uint64_t length, uint8_t *out,
                            uint64_t out_length, uint64_t answer[3]);
 
@@ -105,7 +105,7 @@ void tlopahuexi_stamp(const uint8_t *image, uint64_t image_length, uint64_t answ
 /* Moves a table without years to the form with years, each entry always in force.
    out     gets the image in the other form: four bytes more for each entry
    answer  number, place, bytes written
-   Refusals: 1, also to a table with years, 2, 11 to 14, 3, 4, 8. It needs 1,700 bytes of stack. */
+   Refusals: 1, also to a table with years, 2, 11 to 14, 3, 4, 8. It needs 1,800 bytes of stack. */
 void tlopahuexi_date(const uint8_t *image, uint64_t image_length, uint8_t *out, uint64_t out_length, uint64_t answer[3]);
 
 /* Moves a table with years, each entry always in force, to the form without; otherwise as

@@ -8,7 +8,7 @@ use pages::Sheet;
 
 // Writes the embosser file of a layout, which is judged first, and stores the answer's three
 // values: number, place, bytes written. A refused call changes no byte of `out`, and a done one none
-// beyond the bytes written. It needs 500 bytes of stack, whatever it is asked (bench/stack).
+// beyond the bytes written. It needs 600 bytes of stack, whatever it is asked (bench/stack).
 pub fn tlopahuexi_write_file(
     layout: &[u8],
     width: usize,

@@ -7,7 +7,7 @@ use movers::{date, undate};
 
 // Writes a table without years in the form with years, each entry in force always, and stores the
 // answer's three values: number, place, bytes written. A refused call changes no byte of `out`, and
-// a done one none beyond the bytes written. It needs 1,700 bytes of stack, whatever it is asked
+// a done one none beyond the bytes written. It needs 1,800 bytes of stack, whatever it is asked
 // (bench/stack).
 pub fn tlopahuexi_date(image: &[u8], out: &mut [u8], answer: &mut [u64; 3])
     ensures { Recast (dating image.now out.old) out.new answer.new }

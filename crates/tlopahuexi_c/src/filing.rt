@@ -5,7 +5,7 @@ ghost use Rattle.calls.specs.Promises.{Converted};
 
 // Writes the embosser file of a layout, which is judged first, and stores the answer's three
 // values: number, place, bytes written. A refused call changes no byte of `out`, and a done one none
-// beyond the bytes written. It needs 500 bytes of stack, whatever it is asked (bench/stack).
+// beyond the bytes written. It needs 600 bytes of stack, whatever it is asked (bench/stack).
 #[unsafe(no_mangle)]
 pub extern "C" fn tlopahuexi_write_file(
     layout: &[u8],
