@@ -36,23 +36,68 @@
 
 #![tactic(auto)]
 
-ghost use Rattle.std.specs.Prelude.{◌≤◌};
-ghost use Rattle.io.specs.Counts.{IsPrefixLen};
+ghost use Rattle.std.specs.Prelude.{◌+◌, ◌≤◌};
 
 use console::{read_whole, write_whole};
-use dates::Moved;
-use embosser::Filed;
-use inkprint::Inked;
-use layout::Answer;
+use layout::Laid;
 use pages::Sheet;
-use stamp::Stamped;
-use tables::{Drawn, Expected};
+use stamp::{Stamped, numbers_of};
+use std::io::Error;
+use table::{Numbered, Refusal, number_of, place_of};
+use tables::{Expected, Undrawn};
 use translation::Setting;
 
-// What a case asks, and its sizes.
+// The run ends: the input is cut short, a case is over the limits, or an answer doesn't go through.
+#[derive(Clone, Copy)]
+struct Ended;
+
+impl From<Error> for Ended {
+    fn from(_: Error) -> Ended {
+        Ended
+    }
+}
+
+// ---- A case
+
+// What a case asks.
+#[derive(Clone, Copy)]
+enum Asked {
+    Emboss,
+    Date,
+    Undate,
+    Stamp,
+    WriteFile,
+    ReadFile,
+    Show,
+    Make,
+    Mark,
+    Source,
+}
+
+impl TryFrom<u32> for Asked {
+    type Error = Ended;
+
+    fn try_from(number: u32) -> Result<Asked, Ended> {
+        match number {
+            0 => Ok(Asked::Emboss),
+            1 => Ok(Asked::Date),
+            2 => Ok(Asked::Undate),
+            3 => Ok(Asked::Stamp),
+            4 => Ok(Asked::WriteFile),
+            5 => Ok(Asked::ReadFile),
+            6 => Ok(Asked::Show),
+            7 => Ok(Asked::Make),
+            8 => Ok(Asked::Mark),
+            9 => Ok(Asked::Source),
+            _ => Err(Ended),
+        }
+    }
+}
+
+// What stands before the image and the text of a case: what it asks, and its sizes.
 #[derive(Clone, Copy)]
 struct Head {
-    asked: usize,
+    asked: u32,
     image: usize,
     text: usize,
     sheet: Sheet,
@@ -60,56 +105,199 @@ struct Head {
     room: usize,
 }
 
-fn wide(b: u8) -> usize {
-    b as usize
+// A case, of which not all is looked at.
+#[derive(Clone, Copy)]
+struct Case<'a> {
+    asked: Asked,
+    setting: Setting,
+    image: &'a [u8],
+    text: &'a [u8],
+    sheet: Sheet,
 }
 
-fn whole(n: u32) -> usize {
-    n as usize
-}
-
-fn year_byte(b: u8) -> u16 {
-    b as u16
-}
-
-// The year in the two bytes from `at` on.
-fn two(head: &[u8; 48], at: usize) -> u16
-    requires { at ≤ 46 }
+// The bytes from `at` on.
+fn bytes_at<const N: usize>(head: &[u8; 48], at: usize) -> [u8; N]
+    requires { at + N ≤ 48 }
 {
-    year_byte(head[at]) | (year_byte(head[at + 1]) << 8)
+    let mut bytes = [0u8; N];
+    bytes.copy_from_slice(&head[at..at + N]);
+    bytes
 }
 
-// The number in the four bytes from `at` on.
-fn four(head: &[u8; 48], at: usize) -> usize
-    requires { at ≤ 44 }
+fn year_at(head: &[u8; 48], at: usize) -> u16
+    requires { at + 2 ≤ 48 }
 {
-    let low = wide(head[at]) | (wide(head[at + 1]) << 8);
-    let high = wide(head[at + 2]) | (wide(head[at + 3]) << 8);
-    low | (high << 16)
+    u16::from_le_bytes(bytes_at::<2>(head, at))
 }
 
-// The number in the eight bytes from `at` on.
-fn eight(head: &[u8; 48], at: usize) -> usize
-    requires { at ≤ 40 }
+fn four_at(head: &[u8; 48], at: usize) -> u32
+    requires { at + 4 ≤ 48 }
 {
-    four(head, at) | (four(head, at + 4) << 32)
+    u32::from_le_bytes(bytes_at::<4>(head, at))
+}
+
+// Kept: here and in `told_stamp` it is `as`, since there is no `usize::from` of 32 bits.
+fn length_at(head: &[u8; 48], at: usize) -> usize
+    requires { at + 4 ≤ 48 }
+{
+    four_at(head, at) as usize
+}
+
+fn size_at(head: &[u8; 48], at: usize) -> usize
+    requires { at + 8 ≤ 48 }
+{
+    usize::from_le_bytes(bytes_at::<8>(head, at))
 }
 
 fn read_head(head: &[u8; 48]) -> Head {
     Head {
-        asked: four(head, 0),
-        image: four(head, 4),
-        text: four(head, 8),
+        asked: four_at(head, 0),
+        image: length_at(head, 4),
+        text: length_at(head, 8),
         sheet: Sheet {
-            width: eight(head, 12),
-            length: eight(head, 20),
+            width: size_at(head, 12),
+            length: size_at(head, 20),
         },
         setting: Setting {
             following: head[28],
-            year: two(head, 36),
+            year: year_at(head, 36),
         },
-        room: four(head, 44),
+        room: length_at(head, 44),
     }
+}
+
+// ---- An answer
+
+// The number of an answer and the five that follow it: its place, the bytes written, pieces, lines
+// and pages, or what stands in their place.
+#[derive(Clone, Copy)]
+struct Answer {
+    number: u8,
+    after: [usize; 5],
+}
+
+// An answer that has no pieces, lines and pages.
+fn told<R: Numbered + Copy>(answer: Result<usize, R>) -> Answer {
+    Answer {
+        number: number_of(answer),
+        after: [place_of(answer), answer.unwrap_or(0), 0, 0, 0],
+    }
+}
+
+// The answer of the whole call.
+fn told_laid(answer: Result<Laid, Refusal>) -> Answer {
+    match answer {
+        Ok(
+            Laid {
+                written,
+                pieces,
+                lines,
+                pages,
+            },
+        ) => Answer {
+            number: 0,
+            after: [0, written, pieces, lines, pages],
+        },
+        Err(refusal) => told(Err(refusal)),
+    }
+}
+
+// The answer of a stamp: its two numbers in the place of bytes written and pieces.
+fn told_stamp(answer: Result<Stamped, Refusal>) -> Answer {
+    let Stamped { first, second } = numbers_of(answer);
+    Answer {
+        number: number_of(answer),
+        after: [place_of(answer), first as usize, second as usize, 0, 0],
+    }
+}
+
+// What was expected, as a number: the case, and its numbers above that.
+fn expected_number(expected: Expected) -> usize {
+    match expected {
+        Expected::Line(stage) => usize::from(stage) << 4,
+        Expected::Fewer => 1,
+        Expected::Number(least, most) => {
+            2 | (usize::from(least) << 4) | (usize::from(most) << 20)
+        }
+        Expected::Symbol => 3,
+        Expected::Escaped => 4,
+        Expected::WordEnd => 5,
+        Expected::Row(n) => 6 | (usize::from(n) << 4),
+        Expected::Colon => 7,
+        Expected::LineEnd => 8,
+        Expected::Letter => 9,
+        Expected::Transition => 10,
+    }
+}
+
+// The answer of a table shown or made: of a text that isn't of the form its line, its column and what
+// was expected.
+fn told_drawn(answer: Result<usize, Undrawn>) -> Answer {
+    match answer {
+        Err(
+            Undrawn::Unlike {
+                line,
+                column,
+                expected,
+                ..
+            },
+        ) => Answer {
+            number: number_of(answer),
+            after: [place_of(answer), 0, line, column, expected_number(expected)],
+        },
+        _ => told(answer),
+    }
+}
+
+// What the call that is asked answers, into a buffer or beside it.
+fn answer_of(case: Case, out: &mut [u8]) -> Answer {
+    let Case {
+        asked,
+        setting,
+        image,
+        text,
+        sheet,
+    } = case;
+    match asked {
+        Asked::Emboss => told_laid(layout::emboss(setting, image, text, sheet, out)),
+        Asked::Date => told(movers::date(image, out)),
+        Asked::Undate => told(movers::undate(image, out)),
+        Asked::Stamp => told_stamp(stamp::stamp(image)),
+        Asked::WriteFile => told(files::write_file(text, sheet, out)),
+        Asked::ReadFile => told(files::read_file(text, sheet, out)),
+        Asked::Show => told_drawn(tables::show(image, out)),
+        Asked::Make => told_drawn(tables::make(text, out)),
+        Asked::Mark => told(ink::mark(text, out)),
+        Asked::Source => Answer {
+            number: 0,
+            after: [ink::source(text, sheet.width), 0, 0, 0, 0],
+        },
+    }
+}
+
+// ---- In and out
+
+// Reads the next `n` bytes of the input into the front of the buffer, if it has the room and so many
+// come.
+fn read_front<'a>(rt: &HostRuntime, bytes: &'a mut [u8], n: usize) -> Result<&'a [u8], Ended> {
+    let front = bytes.get_mut(..n).ok_or(Ended)?;
+    if read_whole(&mut rt.stdin(), front)? != n {
+        return Err(Ended);
+    }
+    Ok(front)
+}
+
+fn write_all(rt: &HostRuntime, bytes: &[u8]) -> Result<(), Error> {
+    write_whole(&mut rt.stdout(), bytes)
+}
+
+// Writes an answer and the buffer. Each part of it is tried, also after one that didn't go through.
+fn write_told(rt: &HostRuntime, answer: Answer, out: &[u8]) -> Result<(), Error> {
+    let mut done = write_all(rt, &[answer.number]);
+    for n in answer.after {
+        done = done.and(write_all(rt, &n.to_le_bytes()));
+    }
+    done.and(write_all(rt, out))
 }
 
 // The buffer as it is lent.
@@ -121,314 +309,43 @@ fn prepare(out: &mut [u8]) {
     }
 }
 
-fn low_byte(n: usize) -> u8 {
-    (n & 255) as u8
-}
+// ---- The cases
 
-// Whether all of the bytes went to standard output.
-fn write_all(rt: &HostRuntime, bytes: &[u8]) -> bool {
-    write_whole(&mut rt.stdout(), bytes).is_ok()
-}
-
-fn write_eight(rt: &HostRuntime, n: usize) -> bool {
-    write_all(
-        rt,
-        &[
-            low_byte(n),
-            low_byte(n >> 8),
-            low_byte(n >> 16),
-            low_byte(n >> 24),
-            low_byte(n >> 32),
-            low_byte(n >> 40),
-            low_byte(n >> 48),
-            low_byte(n >> 56),
-        ],
-    )
-}
-
-fn write_answer(rt: &HostRuntime, answer: Answer) -> bool {
-    write_all(rt, &[answer.number()])
-        & write_eight(rt, answer.place())
-        & write_eight(rt, answer.written())
-        & write_eight(rt, answer.pieces())
-        & write_eight(rt, answer.lines())
-        & write_eight(rt, answer.pages())
-}
-
-// The answer of a mover, which has no pieces, lines and pages.
-fn write_moved(rt: &HostRuntime, answer: Moved) -> bool {
-    write_all(rt, &[answer.number()])
-        & write_eight(rt, answer.place())
-        & write_eight(rt, answer.written())
-        & write_eight(rt, 0)
-        & write_eight(rt, 0)
-        & write_eight(rt, 0)
-}
-
-// The answer of a stamp: its two numbers in the place of bytes written and pieces.
-fn write_stamped(rt: &HostRuntime, answer: Stamped) -> bool {
-    write_all(rt, &[answer.number()])
-        & write_eight(rt, answer.place())
-        & write_eight(rt, whole(answer.first()))
-        & write_eight(rt, whole(answer.second()))
-        & write_eight(rt, 0)
-        & write_eight(rt, 0)
-}
-
-// The answer of a file, written or read, which has no pieces, lines and pages.
-fn write_filed(rt: &HostRuntime, answer: Filed) -> bool {
-    write_all(rt, &[answer.number()])
-        & write_eight(rt, answer.place())
-        & write_eight(rt, answer.written())
-        & write_eight(rt, 0)
-        & write_eight(rt, 0)
-        & write_eight(rt, 0)
-}
-
-fn small(n: u16) -> usize {
-    n as usize
-}
-
-// What was expected, as a number: the case, and its numbers above that.
-fn expected_number(expected: Expected) -> usize {
-    match expected {
-        Expected::Line(stage) => wide(stage) << 4,
-        Expected::Fewer => 1,
-        Expected::Number(least, most) => 2 | (small(least) << 4) | (small(most) << 20),
-        Expected::Symbol => 3,
-        Expected::Escaped => 4,
-        Expected::WordEnd => 5,
-        Expected::Row(n) => 6 | (small(n) << 4),
-        Expected::Colon => 7,
-        Expected::LineEnd => 8,
-        Expected::Letter => 9,
-        Expected::Transition => 10,
-    }
-}
-
-// The answer of a table shown or made.
-fn write_drawn(rt: &HostRuntime, answer: Drawn) -> bool {
-    let told = write_all(rt, &[answer.number()])
-        & write_eight(rt, answer.place())
-        & write_eight(rt, answer.written());
-    match answer {
-        Drawn::Unlike {
-            at: _,
-            line: row,
-            column: character,
-            expected: wanted,
-        } => {
-            told & write_eight(rt, row)
-                & write_eight(rt, character)
-                & write_eight(rt, expected_number(wanted))
-        }
-        _ => told & write_eight(rt, 0) & write_eight(rt, 0) & write_eight(rt, 0),
-    }
-}
-
-// Reads the next `n` bytes of the input into the front of the buffer, and answers how many came;
-// none where the buffer hasn't the room.
-fn read_front(rt: &HostRuntime, bytes: &mut [u8], n: usize) -> usize
-    ensures { IsPrefixLen result bytes.new }
-{
-    if bytes.len() < n {
-        return 0;
-    }
-    read_whole(&mut rt.stdin(), &mut bytes[..n]).count
-}
-
-// Answers the whole call into a buffer.
-fn emboss_into(
-    rt: &HostRuntime,
-    setting: Setting,
-    image: &[u8],
-    text: &[u8],
-    sheet: Sheet,
-    out: &mut [u8],
-) -> bool {
-    prepare(out);
-    let answer = layout::emboss(setting, image, text, sheet, out);
-    write_answer(rt, answer) & write_all(rt, out)
-}
-
-// Moves a table to the dated form, into a buffer.
-fn date_into(rt: &HostRuntime, image: &[u8], out: &mut [u8]) -> bool {
-    prepare(out);
-    let answer = movers::date(image, out);
-    write_moved(rt, answer) & write_all(rt, out)
-}
-
-// Moves a table back to the old form, into a buffer.
-fn undate_into(rt: &HostRuntime, image: &[u8], out: &mut [u8]) -> bool {
-    prepare(out);
-    let answer = movers::undate(image, out);
-    write_moved(rt, answer) & write_all(rt, out)
-}
-
-// Stamps a table, beside a buffer.
-fn stamp_beside(rt: &HostRuntime, image: &[u8], out: &mut [u8]) -> bool {
-    prepare(out);
-    let answer = stamp::stamp(image);
-    write_stamped(rt, answer) & write_all(rt, out)
-}
-
-// Writes the file of a layout into a buffer.
-fn write_into(rt: &HostRuntime, layout: &[u8], sheet: Sheet, out: &mut [u8]) -> bool {
-    prepare(out);
-    let answer = files::write_file(layout, sheet, out);
-    write_filed(rt, answer) & write_all(rt, out)
-}
-
-// Reads a file into a buffer, as the layout it was written from.
-fn read_into(rt: &HostRuntime, file: &[u8], sheet: Sheet, out: &mut [u8]) -> bool {
-    prepare(out);
-    let answer = files::read_file(file, sheet, out);
-    write_filed(rt, answer) & write_all(rt, out)
-}
-
-// Shows a table, into a buffer.
-fn show_into(rt: &HostRuntime, image: &[u8], out: &mut [u8]) -> bool {
-    prepare(out);
-    let answer = tables::show(image, out);
-    write_drawn(rt, answer) & write_all(rt, out)
-}
-
-// Makes the table of a text, into a buffer.
-fn make_into(rt: &HostRuntime, text: &[u8], out: &mut [u8]) -> bool {
-    prepare(out);
-    let answer = tables::make(text, out);
-    write_drawn(rt, answer) & write_all(rt, out)
-}
-
-// The answer of marking.
-fn write_inked(rt: &HostRuntime, answer: Inked) -> bool {
-    write_all(rt, &[answer.number()])
-        & write_eight(rt, answer.place())
-        & write_eight(rt, answer.written())
-        & write_eight(rt, 0)
-        & write_eight(rt, 0)
-        & write_eight(rt, 0)
-}
-
-// Marks the text, into a buffer.
-fn mark_into(rt: &HostRuntime, text: &[u8], out: &mut [u8]) -> bool {
-    prepare(out);
-    let answer = ink::mark(text, out);
-    write_inked(rt, answer) & write_all(rt, out)
-}
-
-// Where a byte of the marked text comes from, beside a buffer.
-fn source_beside(rt: &HostRuntime, text: &[u8], n: usize, out: &mut [u8]) -> bool {
-    prepare(out);
-    write_all(rt, &[0])
-        & write_eight(rt, ink::source(text, n))
-        & write_eight(rt, 0)
-        & write_eight(rt, 0)
-        & write_eight(rt, 0)
-        & write_eight(rt, 0)
-        & write_all(rt, out)
-}
-
-// Answers one case about a text or a table, into a buffer.
-fn answer_other(
-    rt: &HostRuntime,
-    asked: usize,
-    image: &[u8],
-    text: &[u8],
-    n: usize,
-    out: &mut [u8],
-) -> bool {
-    if asked == 6 {
-        return show_into(rt, image, out);
-    }
-    if asked == 7 {
-        return make_into(rt, text, out);
-    }
-    if asked == 8 {
-        return mark_into(rt, text, out);
-    }
-    source_beside(rt, text, n, out)
-}
-
-// Answers one case into a buffer, by what it asks.
-fn answer_into(
-    rt: &HostRuntime,
-    asked: usize,
-    setting: Setting,
-    image: &[u8],
-    text: &[u8],
-    sheet: Sheet,
-    out: &mut [u8],
-) -> bool {
-    if asked == 0 {
-        return emboss_into(rt, setting, image, text, sheet, out);
-    }
-    if asked == 1 {
-        return date_into(rt, image, out);
-    }
-    if asked == 2 {
-        return undate_into(rt, image, out);
-    }
-    if asked == 3 {
-        return stamp_beside(rt, image, out);
-    }
-    if asked == 4 {
-        return write_into(rt, text, sheet, out);
-    }
-    if asked == 5 {
-        return read_into(rt, text, sheet, out);
-    }
-    answer_other(rt, asked, image, text, sheet.width, out)
-}
-
-// Room for a text, or for a layout or a file in its place.
+// Room for a text, or for a layout or a file in its place; and for what is written.
 fn large() -> [u8; 163840] {
     [0u8; 163840]
 }
 
 // Answers one case with so much room.
-fn answer(
-    rt: &HostRuntime,
-    asked: usize,
-    setting: Setting,
-    image: &[u8],
-    text: &[u8],
-    sheet: Sheet,
-    room: usize,
-) -> bool {
-    let mut out = [0u8; 163840];
-    if out.len() < room {
-        return false;
-    }
-    answer_into(rt, asked, setting, image, text, sheet, &mut out[..room])
+fn answer_case(rt: &HostRuntime, case: Case, room: usize) -> Result<(), Ended> {
+    let mut buffer = large();
+    let out = buffer.get_mut(..room).ok_or(Ended)?;
+    prepare(out);
+    let answer = answer_of(case, out);
+    write_told(rt, answer, out)?;
+    Ok(())
 }
 
 // Answers the case with this head, whose image and text follow.
-fn answer_with(rt: &HostRuntime, head: Head) -> bool {
+fn answer_with(rt: &HostRuntime, head: Head) -> Result<(), Ended> {
     let mut image = [0u8; 65536];
     let held = read_front(rt, &mut image, head.image);
     let mut text = large();
-    let length = read_front(rt, &mut text, head.text);
-    if (held != head.image) | (length != head.text) | (9 < head.asked) {
-        return false;
-    }
-    answer(
-        rt,
-        head.asked,
-        head.setting,
-        &image[..held],
-        &text[..length],
-        head.sheet,
-        head.room,
-    )
+    let words = read_front(rt, &mut text, head.text);
+    let case = Case {
+        asked: Asked::try_from(head.asked)?,
+        setting: head.setting,
+        image: held?,
+        text: words?,
+        sheet: head.sheet,
+    };
+    answer_case(rt, case, head.room)
 }
 
-// Answers the next case, and says whether there was one.
-fn answer_next(rt: &HostRuntime) -> bool {
+// Answers the next case, if there is one.
+fn answer_next(rt: &HostRuntime) -> Result<(), Ended> {
     let mut head = [0u8; 48];
-    if read_front(rt, &mut head, 48) != 48 {
-        return false;
-    }
+    read_front(rt, &mut head, 48)?;
     answer_with(rt, read_head(&head))
 }
 
@@ -436,7 +353,7 @@ fn answer_next(rt: &HostRuntime) -> bool {
 // that no run comes to the end of.
 fn main(rt: HostRuntime) {
     for _ in 0..u64::MAX {
-        if !answer_next(&rt) {
+        if answer_next(&rt).is_err() {
             return;
         }
     }

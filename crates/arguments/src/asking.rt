@@ -1,371 +1,292 @@
 // The arguments: a command, options anywhere after it, and what it is about. Wrong usage is said in
 // one line that names what is wrong.
 
-use crate::{Asked, Command, Number, Taken};
-use desk::{say, say_number};
+use crate::{Asked, Command};
+use desk::{Failure, say};
 use std::env::{Env, FillError};
 
 // The command of a word.
-fn command_of(word: &[u8]) -> Command {
-    if word == b"emboss".as_slice() {
-        return Command::Emboss;
-    }
-    if word == b"preview".as_slice() {
-        return Command::Preview;
-    }
-    if word == b"read".as_slice() {
-        return Command::Read;
-    }
-    if word == b"check".as_slice() {
-        return Command::Check;
-    }
-    if word == b"stamp".as_slice() {
-        return Command::Stamp;
-    }
-    if word == b"date".as_slice() {
-        return Command::Date;
-    }
-    if word == b"undate".as_slice() {
-        return Command::Undate;
-    }
-    if word == b"make".as_slice() {
-        return Command::Make;
-    }
-    if word == b"show".as_slice() {
-        return Command::Show;
-    }
-    if word == b"mark".as_slice() {
-        return Command::Mark;
-    }
-    if (word == b"help".as_slice()) | (word == b"--help".as_slice()) | (word == b"-h".as_slice()) {
-        return Command::Help;
-    }
-    if word == b"--version".as_slice() {
-        return Command::Version;
-    }
-    Command::Unknown
+fn command_of(word: &[u8]) -> Option<Command> {
+    let command = match word {
+        b"emboss" => Command::Emboss,
+        b"preview" => Command::Preview,
+        b"read" => Command::Read,
+        b"check" => Command::Check,
+        b"stamp" => Command::Stamp,
+        b"date" => Command::Date,
+        b"undate" => Command::Undate,
+        b"make" => Command::Make,
+        b"show" => Command::Show,
+        b"mark" => Command::Mark,
+        b"help" | b"--help" | b"-h" => Command::Help,
+        b"--version" => Command::Version,
+        _ => return None,
+    };
+    Some(command)
 }
 
-// What an argument may be the value of.
-const NOTHING: u8 = 0;
-
-const WIDTH: u8 = 1;
-
-const PAGE: u8 = 2;
-
-const YEAR: u8 = 3;
-
-const FOLLOWING: u8 = 4;
-
-const OUTPUT: u8 = 5;
-
-// Takes no value.
-const INK: u8 = 6;
+// The options that take a value.
+#[derive(Clone, Copy)]
+enum Choice {
+    Width,
+    Page,
+    Year,
+    Following,
+    Output,
+}
 
 // The option of a word that begins with a hyphen.
-fn option_of(word: &[u8]) -> u8 {
-    if word == b"--width".as_slice() {
-        return WIDTH;
+fn choice_of(word: &[u8]) -> Option<Choice> {
+    let choice = match word {
+        b"--width" => Choice::Width,
+        b"--page" => Choice::Page,
+        b"--year" => Choice::Year,
+        b"--following" => Choice::Following,
+        b"-o" => Choice::Output,
+        _ => return None,
+    };
+    Some(choice)
+}
+
+// What an option wants.
+fn wish_of(choice: Choice) -> &'static str {
+    match choice {
+        Choice::Width => "--width wants a number",
+        Choice::Page => "--page wants a number",
+        Choice::Year => "--year wants a number from 0 to 65535",
+        Choice::Following => "--following wants one ASCII character",
+        Choice::Output => "-o wants the name of a file",
     }
-    if word == b"--page".as_slice() {
-        return PAGE;
-    }
-    if word == b"--year".as_slice() {
-        return YEAR;
-    }
-    if word == b"--following".as_slice() {
-        return FOLLOWING;
-    }
-    if word == b"-o".as_slice() {
-        return OUTPUT;
-    }
-    if word == b"--ink".as_slice() {
-        return INK;
-    }
-    NOTHING
 }
 
 // The number that a word is in decimal, of at most nine digits.
-fn number_of(word: &[u8]) -> Number {
-    let mut n: usize = 0;
-    let mut i = 0;
-    while i < word.len() {
-        let digit = word[i];
-        if digit < 48 {
-            return Number::Not;
-        }
-        if 57 < digit {
-            return Number::Not;
+fn number_of(word: &[u8]) -> Option<usize> {
+    if word.is_empty() {
+        return None;
+    }
+    let mut n = 0;
+    for byte in word {
+        if !byte.is_ascii_digit() {
+            return None;
         }
         if 99999999 < n {
-            return Number::Not;
+            return None;
         }
-        n = n * 10 + (digit - 48) as usize;
-        i += 1;
+        n = n * 10 + usize::from(*byte - b'0');
     }
-    if i == 0 {
-        return Number::Not;
-    }
-    Number::Is(n)
+    Some(n)
 }
 
-fn wrong(rt: &HostRuntime, before: &[u8], word: &[u8], after: &[u8]) -> Taken {
-    say(rt, b"press: ");
+// Says which word is wrong.
+fn wrong(rt: &HostRuntime, before: &[u8], word: &[u8], after: &[u8]) -> Failure {
     say(rt, before);
     say(rt, word);
     say(rt, after);
-    say(rt, b"\n");
-    Taken::Wrong
+    Failure::Usage
 }
 
-// The value of an option.
-fn width_given(rt: &HostRuntime, asked: Asked, word: &[u8]) -> Taken {
-    match number_of(word) {
-        Number::Is(n) => {
-            let mut next = asked;
-            next.width = n;
-            Taken::Right(next)
+// What is asked for with the value of an option, which is argument `i`, if it is one of its values.
+fn with_value(asked: Asked, choice: Choice, word: &[u8], i: usize) -> Option<Asked> {
+    let next = match choice {
+        Choice::Width => Asked {
+            width: number_of(word)?,
+            ..asked
+        },
+        Choice::Page => Asked {
+            page: number_of(word)?,
+            ..asked
+        },
+        Choice::Year => Asked {
+            year: u16::try_from(number_of(word)?).ok()?,
+            ..asked
+        },
+        Choice::Following => match word {
+            [following] => Asked {
+                following: *following,
+                ..asked
+            },
+            _ => return None,
+        },
+        Choice::Output => Asked {
+            output: Some(i),
+            ..asked
+        },
+    };
+    Some(next)
+}
+
+// What is asked for so far, and the option whose value comes next.
+#[derive(Clone, Copy)]
+struct Taking {
+    asked: Asked,
+    waiting: Option<Choice>,
+}
+
+impl From<Asked> for Taking {
+    fn from(asked: Asked) -> Taking {
+        Taking {
+            asked,
+            waiting: None,
         }
-        Number::Not => wrong(rt, b"--width wants a number, not '", word, b"'"),
     }
-}
-
-fn page_given(rt: &HostRuntime, asked: Asked, word: &[u8]) -> Taken {
-    match number_of(word) {
-        Number::Is(n) => {
-            let mut next = asked;
-            next.page = n;
-            Taken::Right(next)
-        }
-        Number::Not => wrong(rt, b"--page wants a number, not '", word, b"'"),
-    }
-}
-
-fn no_year(rt: &HostRuntime, word: &[u8]) -> Taken {
-    wrong(
-        rt,
-        b"--year wants a number from 0 to 65535, not '",
-        word,
-        b"'",
-    )
-}
-
-fn year_given(rt: &HostRuntime, asked: Asked, word: &[u8]) -> Taken {
-    match number_of(word) {
-        Number::Is(n) => {
-            if 65535 < n {
-                return no_year(rt, word);
-            }
-            let mut next = asked;
-            next.year = n as u16;
-            Taken::Right(next)
-        }
-        Number::Not => no_year(rt, word),
-    }
-}
-
-fn following_given(rt: &HostRuntime, asked: Asked, word: &[u8]) -> Taken {
-    if word.len() != 1 {
-        return wrong(
-            rt,
-            b"--following wants one ASCII character, not '",
-            word,
-            b"'",
-        );
-    }
-    let mut next = asked;
-    next.following = word[0];
-    Taken::Right(next)
-}
-
-fn output_given(asked: Asked, i: usize) -> Taken {
-    let mut next = asked;
-    next.output = i;
-    Taken::Right(next)
 }
 
 // The value of an option, which is argument `i`.
-fn take_value(rt: &HostRuntime, asked: Asked, option: u8, word: &[u8], i: usize) -> Taken {
-    if option == WIDTH {
-        return width_given(rt, asked, word);
-    }
-    if option == PAGE {
-        return page_given(rt, asked, word);
-    }
-    if option == YEAR {
-        return year_given(rt, asked, word);
-    }
-    if option == FOLLOWING {
-        return following_given(rt, asked, word);
-    }
-    output_given(asked, i)
-}
-
-fn take_option(rt: &HostRuntime, asked: Asked, word: &[u8]) -> Taken {
-    let option = option_of(word);
-    if option == NOTHING {
-        return wrong(
-            rt,
-            b"there is no option '",
-            word,
-            b"'; press help lists them",
-        );
-    }
-    let mut next = asked;
-    if option == INK {
-        next.ink = true;
-        return Taken::Right(next);
-    }
-    next.waiting = option;
-    Taken::Right(next)
-}
-
-// Whether a command takes a second name: a text.
-fn takes_text(command: Command) -> bool {
-    match command {
-        Command::Emboss => true,
-        Command::Preview => true,
-        _ => false,
-    }
-}
-
-// An argument that is no option: the table or the file, then the text.
-fn take_name(rt: &HostRuntime, command: Command, asked: Asked, word: &[u8], i: usize) -> Taken {
-    let mut next = asked;
-    if asked.first == 0 {
-        next.first = i;
-        return Taken::Right(next);
-    }
-    if takes_text(command) & (asked.second == 0) {
-        next.second = i;
-        return Taken::Right(next);
-    }
-    wrong(rt, b"'", word, b"' is one name too many")
-}
-
-fn is_option(word: &[u8]) -> bool {
-    if word.len() < 2 {
-        return false;
-    }
-    word[0] == b'-'
-}
-
-// Argument `i`, of this word.
-fn take_word(rt: &HostRuntime, command: Command, asked: Asked, word: &[u8], i: usize) -> Taken {
-    let option = asked.waiting;
-    if option != NOTHING {
-        let mut next = asked;
-        next.waiting = NOTHING;
-        return take_value(rt, next, option, word, i);
-    }
-    if is_option(word) {
-        return take_option(rt, asked, word);
-    }
-    take_name(rt, command, asked, word, i)
-}
-
-fn say_long(rt: &HostRuntime, i: usize) {
-    say(rt, b"press: argument ");
-    say_number(rt, i);
-    say(rt, b" has more than 4,096 bytes\n");
-}
-
-fn take_one(rt: &HostRuntime, command: Command, asked: Asked, i: usize) -> Taken {
-    let mut word = io::buffer();
-    match rt.arg(i, &mut word) {
-        Ok(length) => take_word(rt, command, asked, &word[..length], i),
-        Err(_) => {
-            say_long(rt, i);
-            Taken::Wrong
+fn take_value(
+    rt: &HostRuntime,
+    asked: Asked,
+    choice: Choice,
+    word: &[u8],
+    i: usize,
+) -> Result<Taking, Failure> {
+    match with_value(asked, choice, word, i) {
+        Some(next) => Ok(Taking::from(next)),
+        None => {
+            let wish = wish_of(choice);
+            let _ = eprint!(rt; "press: {wish}, not '");
+            Err(wrong(rt, b"", word, b"'\n"))
         }
     }
 }
 
-fn defaults() -> Asked {
-    Asked {
-        waiting: NOTHING,
-        ink: false,
-        first: 0,
-        second: 0,
-        output: 0,
-        width: 40,
-        page: 25,
-        year: 65535,
-        following: b' ',
+fn take_option(rt: &HostRuntime, asked: Asked, word: &[u8]) -> Result<Taking, Failure> {
+    if word == b"--ink".as_slice() {
+        return Ok(Taking::from(Asked { ink: true, ..asked }));
+    }
+    match choice_of(word) {
+        Some(choice) => Ok(Taking {
+            asked,
+            waiting: Some(choice),
+        }),
+        None => Err(wrong(
+            rt,
+            b"press: there is no option '",
+            word,
+            b"'; press help lists them\n",
+        )),
     }
 }
 
-// The arguments are over, and an option may wait for its value.
-fn ended(rt: &HostRuntime, asked: Asked) -> Taken {
-    if asked.waiting == NOTHING {
-        return Taken::Right(asked);
-    }
-    if asked.waiting == WIDTH {
-        return wrong(rt, b"--width", b"", b" wants a number");
-    }
-    if asked.waiting == PAGE {
-        return wrong(rt, b"--page", b"", b" wants a number");
-    }
-    if asked.waiting == YEAR {
-        return wrong(rt, b"--year", b"", b" wants a number from 0 to 65535");
-    }
-    if asked.waiting == FOLLOWING {
-        return wrong(rt, b"--following", b"", b" wants one ASCII character");
-    }
-    wrong(rt, b"-o", b"", b" wants the name of a file")
+// Whether a command takes a second name: a text.
+fn takes_text(command: Option<Command>) -> bool {
+    matches!(command, Some(Command::Emboss | Command::Preview))
 }
 
-// The arguments after the command.
-pub fn take_rest(rt: &HostRuntime, command: Command) -> Taken {
-    let count = arg_count(rt);
-    let mut asked = defaults();
-    for i in 2..count {
-        let Taken::Right(next) = take_one(rt, command, asked, i) else {
-            return Taken::Wrong;
-        };
-        asked = next;
-    }
-    ended(rt, asked)
-}
-
-// The command that argument `i` is. Where there is none, that has been said.
-pub fn take_command(rt: &HostRuntime, i: usize) -> Command {
-    let mut word = io::buffer();
-    let Ok(length) = rt.arg(i, &mut word) else {
-        say_long(rt, i);
-        return Command::Unknown;
+// An argument that is no option: the table or the file, then the text.
+fn take_name(
+    rt: &HostRuntime,
+    command: Option<Command>,
+    asked: Asked,
+    word: &[u8],
+    i: usize,
+) -> Result<Taking, Failure> {
+    let next = match asked {
+        Asked { first: None, .. } => Asked {
+            first: Some(i),
+            ..asked
+        },
+        Asked { second: None, .. } if takes_text(command) => Asked {
+            second: Some(i),
+            ..asked
+        },
+        _ => return Err(wrong(rt, b"press: '", word, b"' is one name too many\n")),
     };
-    let command = command_of(&word[..length]);
-    if let Command::Unknown = command {
+    Ok(Taking::from(next))
+}
+
+fn is_option(word: &[u8]) -> bool {
+    matches!(word, [b'-', _, ..])
+}
+
+// Argument `i`, of this word.
+fn take_word(
+    rt: &HostRuntime,
+    command: Option<Command>,
+    so_far: Taking,
+    word: &[u8],
+    i: usize,
+) -> Result<Taking, Failure> {
+    let Taking { asked, waiting } = so_far;
+    match waiting {
+        Some(choice) => take_value(rt, asked, choice, word, i),
+        None if is_option(word) => take_option(rt, asked, word),
+        None => take_name(rt, command, asked, word, i),
+    }
+}
+
+fn say_long(rt: &HostRuntime, i: usize) -> Failure {
+    let _ = eprintln!(rt; "press: argument {i} has more than 4,096 bytes");
+    Failure::Usage
+}
+
+fn take_one(
+    rt: &HostRuntime,
+    command: Option<Command>,
+    so_far: Taking,
+    i: usize,
+) -> Result<Taking, Failure> {
+    let mut word = io::buffer();
+    let length = rt.arg(i, &mut word).map_err(|_| say_long(rt, i))?;
+    take_word(rt, command, so_far, &word[..length], i)
+}
+
+// What is asked for where nothing is said of it.
+const DEFAULTS: Asked = Asked {
+    ink: false,
+    first: None,
+    second: None,
+    output: None,
+    width: 40,
+    page: 25,
+    year: 65535,
+    following: b' ',
+};
+
+// The arguments after the command, if there is one.
+pub fn take_rest(rt: &HostRuntime, command: Option<Command>) -> Result<Asked, Failure> {
+    let mut taking = Taking::from(DEFAULTS);
+    for i in 2..arg_count(rt) {
+        taking = take_one(rt, command, taking, i)?;
+    }
+    match taking.waiting {
+        Some(choice) => {
+            let wish = wish_of(choice);
+            let _ = eprintln!(rt; "press: {wish}");
+            Err(Failure::Usage)
+        }
+        None => Ok(taking.asked),
+    }
+}
+
+// The command that argument `i` is. Where it is none, that has been said.
+pub fn take_command(rt: &HostRuntime, i: usize) -> Result<Command, Failure> {
+    let mut word = io::buffer();
+    let length = rt.arg(i, &mut word).map_err(|_| say_long(rt, i))?;
+    let word = &word[..length];
+    command_of(word).ok_or_else(|| {
         wrong(
             rt,
-            b"there is no command '",
-            &word[..length],
-            b"'; press help lists them",
-        );
-    }
-    command
+            b"press: there is no command '",
+            word,
+            b"'; press help lists them\n",
+        )
+    })
 }
 
 // How many arguments there are, the program's name among them.
 fn arg_count(rt: &HostRuntime) -> usize {
     for i in 0..usize::MAX {
-        let mut word = [0u8; 0];
-        if let Err(FillError::NotPresent) = rt.arg(i, &mut word) {
+        if let Err(FillError::NotPresent) = rt.arg(i, &mut []) {
             return i;
         }
     }
     usize::MAX
 }
 
-// The first argument is the command.
-pub fn take_first(rt: &HostRuntime) -> Command {
+// The first argument is the command, if there is one.
+pub fn take_first(rt: &HostRuntime) -> Result<Option<Command>, Failure> {
     if arg_count(rt) < 2 {
-        say(
-            rt,
-            b"press: what shall it do? press help lists the commands\n",
-        );
-        return Command::Unknown;
+        return Ok(None);
     }
-    take_command(rt, 1)
+    Ok(Some(take_command(rt, 1)?))
 }

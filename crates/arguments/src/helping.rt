@@ -1,12 +1,9 @@
 // The help of each command, a screen each, with an example that works.
 
 use crate::Command;
-use desk::print;
+use desk::{Failure, print};
 
-fn help_all(rt: &HostRuntime) -> i32 {
-    print(
-        rt,
-        b"press: inkprint to grade 2 braille by a contraction table
+const ALL: &[u8] = b"press: inkprint to grade 2 braille by a contraction table
 
   press emboss TABLE [TEXT]   the embosser file (braille ASCII) of a text
   press preview TABLE [TEXT]  the same as Unicode braille, to look at
@@ -30,14 +27,10 @@ from standard input. Status 0 is done, 1 refused (number, place and reason are o
 wrong usage, 3 a file that can't be opened, read or written.
 
   bin/press preview tables/english.table story.txt
-",
-    )
-}
+";
 
-fn help_emboss(rt: &HostRuntime) -> i32 {
-    print(
-        rt,
-        b"press emboss TABLE [TEXT] [-o FILE] [--width N] [--page N] [--year N] [--following C] [--ink]
+const EMBOSS: &[u8] =
+    b"press emboss TABLE [TEXT] [-o FILE] [--width N] [--page N] [--year N] [--following C] [--ink]
 
 Translates a text by a table, lays it out in lines and pages and writes the embosser file:
 braille ASCII, a line feed after each line, a form feed after each page. At most 16,384 bytes of
@@ -45,39 +38,25 @@ text. A chapter that comes in sections: --following is the first character of th
 inkprint, which is a file named .txt, or any with --ink, is marked first (press help mark).
 
   printf 'THE CHILDREN READ BRAILLE.' | bin/press emboss tables/english.table -o page.brf
-",
-    )
-}
+";
 
-fn help_preview(rt: &HostRuntime) -> i32 {
-    print(
-        rt,
-        b"press preview TABLE [TEXT] [--width N] [--page N] [--year N] [--following C] [--ink]
+const PREVIEW: &[u8] =
+    b"press preview TABLE [TEXT] [--width N] [--page N] [--year N] [--following C] [--ink]
 
 What press emboss would write, as Unicode braille, line by line, with a rule between pages.
 
   printf 'THE CHILDREN READ BRAILLE.' | bin/press preview tables/english.table --width 20
-",
-    )
-}
+";
 
-fn help_read(rt: &HostRuntime) -> i32 {
-    print(
-        rt,
-        b"press read FILE [--width N] [--page N]
+const READ: &[u8] = b"press read FILE [--width N] [--page N]
 
 Judges an embosser file by the width and the page, and shows it as a preview. Small letters, a line
 that ends in a blank, a line or a page that is too long are refused (16) with their place.
 
   bin/press read page.brf
-",
-    )
-}
+";
 
-fn help_check(rt: &HostRuntime) -> i32 {
-    print(
-        rt,
-        b"press check TABLE [--year N]
+const CHECK: &[u8] = b"press check TABLE [--year N]
 
 What an accepted table has: its form, letters, entries, how many of them are in force in each year
 (and in the one that --year names), right contexts, state variables, decision columns, and its
@@ -85,27 +64,17 @@ stamp. Of a refused one the first wrong byte: its section and record, its name, 
 what it may hold, and of a readable table its line.
 
   bin/press check tables/english.table --year 1932
-",
-    )
-}
+";
 
-fn help_stamp(rt: &HostRuntime) -> i32 {
-    print(
-        rt,
-        b"press stamp TABLE
+const STAMP: &[u8] = b"press stamp TABLE
 
 Two numbers over the bytes of an accepted table image, in hexadecimal. Another stamp is another
 image; one that differs in one or two bytes has another stamp.
 
   bin/press stamp tables/english.table
-",
-    )
-}
+";
 
-fn help_movers(rt: &HostRuntime) -> i32 {
-    print(
-        rt,
-        b"press date TABLE -o FILE
+const MOVERS: &[u8] = b"press date TABLE -o FILE
 press undate TABLE -o FILE
 
 date gives each entry of a table in the old form its years, 0 and 65535, which is always;
@@ -113,42 +82,27 @@ undate takes such years away again, and refuses a table with an entry that isn't
 (17). What one has moved the other moves back byte for byte.
 
   bin/press date tables/paper.table -o dated.image
-",
-    )
-}
+";
 
-fn help_mark(rt: &HostRuntime) -> i32 {
-    print(
-        rt,
-        b"press mark [TEXT] [-o FILE]
+const MARK: &[u8] = b"press mark [TEXT] [-o FILE]
 
 Marks inkprint, UTF-8, as the tables want it: letters in capitals, = before what was a capital, ==
 before a word of capitals, % before an accented letter, $P for each blank line, typographic quotes,
 dashes and dots as docs/ENGLISH.md lists them. A character that has no mark is refused (21).
 
   bin/press mark story.txt
-",
-    )
-}
+";
 
-fn help_show(rt: &HostRuntime) -> i32 {
-    print(
-        rt,
-        b"press show TABLE [-o FILE]
+const SHOW: &[u8] = b"press show TABLE [-o FILE]
 
 The readable form of a table, a record to a line, in columns: to look at, to keep under version
 control, to change by hand and to make again. Making what was shown gives the same image, byte for
 byte. Of a readable table it is the same table without its remarks, in columns.
 
   bin/press show tables/english.table
-",
-    )
-}
+";
 
-fn help_make(rt: &HostRuntime) -> i32 {
-    print(
-        rt,
-        b"press make TABLE -o FILE
+const MAKE: &[u8] = b"press make TABLE -o FILE
 
 The table image of a readable table, which docs/TABLES.md describes. A text that isn't of the form
 is refused (22) at the first byte that isn't, with what was expected there. The image of a table
@@ -156,30 +110,32 @@ that is of the form and wrong all the same, as by a shift over its length, is wr
 with it is said with its line, and the status is 1.
 
   bin/press make tables/english.table -o english.image
-",
-    )
-}
+";
+
+const VERSION: &[u8] =
+    b"press 1 (documents 01 and 02, requests 1, 2, 3, 5, 6 and 14; readable tables; inkprint)\n";
 
 // The page of a command, or of all.
-pub fn help(rt: &HostRuntime, command: Command) -> i32 {
+fn page_of(command: Option<Command>) -> &'static [u8] {
     match command {
-        Command::Emboss => help_emboss(rt),
-        Command::Preview => help_preview(rt),
-        Command::Read => help_read(rt),
-        Command::Check => help_check(rt),
-        Command::Stamp => help_stamp(rt),
-        Command::Date => help_movers(rt),
-        Command::Undate => help_movers(rt),
-        Command::Show => help_show(rt),
-        Command::Mark => help_mark(rt),
-        Command::Make => help_make(rt),
-        _ => help_all(rt),
+        Some(Command::Emboss) => EMBOSS,
+        Some(Command::Preview) => PREVIEW,
+        Some(Command::Read) => READ,
+        Some(Command::Check) => CHECK,
+        Some(Command::Stamp) => STAMP,
+        Some(Command::Date | Command::Undate) => MOVERS,
+        Some(Command::Show) => SHOW,
+        Some(Command::Mark) => MARK,
+        Some(Command::Make) => MAKE,
+        Some(Command::Help | Command::Version) | None => ALL,
     }
 }
 
-pub fn version(rt: &HostRuntime) -> i32 {
-    print(
-        rt,
-        b"press 1 (documents 01 and 02, requests 1, 2, 3, 5, 6 and 14; readable tables; inkprint)\n",
-    )
+// Prints the page of a command, or of all.
+pub fn help(rt: &HostRuntime, command: Option<Command>) -> Result<(), Failure> {
+    print(rt, page_of(command))
+}
+
+pub fn version(rt: &HostRuntime) -> Result<(), Failure> {
+    print(rt, VERSION)
 }

@@ -11,7 +11,7 @@ pub use asking::{take_command, take_first, take_rest};
 pub use helping::{help, version};
 
 // What is asked for.
-#[derive(Clone, Copy)]
+#[derive(Clone, Copy, Debug, PartialEq, Eq)]
 pub enum Command {
     Emboss,
     Preview,
@@ -25,35 +25,18 @@ pub enum Command {
     Mark,
     Help,
     Version,
-    Unknown,
 }
 
 // The options, and what they are about: `first` and `second` are the numbers of the arguments that
-// are no options, `output` that of the file after -o, each 0 where there is none. `waiting` is the
-// option whose value comes next, and `ink` whether the text is inkprint.
-#[derive(Clone, Copy)]
+// are no options, `output` that of the file after -o. `ink` is whether the text is inkprint.
+#[derive(Clone, Copy, Debug, PartialEq, Eq)]
 pub struct Asked {
-    pub waiting: u8,
     pub ink: bool,
-    pub first: usize,
-    pub second: usize,
-    pub output: usize,
+    pub first: Option<usize>,
+    pub second: Option<usize>,
+    pub output: Option<usize>,
     pub width: usize,
     pub page: usize,
     pub year: u16,
     pub following: u8,
-}
-
-// What came of taking arguments: where it is wrong, it has been said.
-#[derive(Clone, Copy)]
-pub enum Taken {
-    Right(Asked),
-    Wrong,
-}
-
-// A number in decimal, if it is one.
-#[derive(Clone, Copy)]
-enum Number {
-    Is(usize),
-    Not,
 }

@@ -5,35 +5,36 @@
 
 #![tactic(auto)]
 
+use console::{Said, print_answer, print_pages, read_table, read_text};
 use pages::Sheet;
 use translation::Setting;
 
 // Translates a text by a table, and prints what comes back.
-fn translate(rt: &HostRuntime, image: &[u8], text: &[u8]) {
+fn translate(rt: &HostRuntime, image: &[u8], text: &[u8]) -> Result<(), Said> {
     let mut out = [0u8; 65536];
     let sheet = Sheet {
         width: 8,
         length: 2,
     };
     let setting = Setting {
-        following: 32,
-        year: 65535,
+        following: b' ',
+        year: u16::MAX,
     };
     let answer = layout::emboss(setting, image, text, sheet, &mut out);
-    if console::print_answer(rt, answer) {
-        console::print_pages(rt, &out[..answer.written()]);
+    print_answer(rt, answer)?;
+    match answer {
+        Ok(laid) => print_pages(rt, &out[..laid.written]),
+        Err(_) => Ok(()),
     }
 }
 
+// Both are read, so that each read that fails is said. What translating comes to has been said too.
 fn main(rt: HostRuntime) {
     let mut image = [0u8; 32768];
-    let table = console::read_table(&rt, &mut image);
+    let table = read_table(&rt, &mut image);
     let mut text = [0u8; 16385];
-    let words = console::read_text(&rt, &mut text);
-    if table.failed.is_some() | words.failed.is_some() {
-        return;
+    let words = read_text(&rt, &mut text);
+    if let (Ok(held), Ok(length)) = (table, words) {
+        let _ = translate(&rt, &image[..held], &text[..length]);
     }
-    let held = table.count;
-    let length = words.count;
-    translate(&rt, &image[..held], &text[..length]);
 }

@@ -9,21 +9,20 @@
 #![tactic(auto)]
 
 use console::write_whole;
-use embosser::Filed;
+use layout::Laid;
 use pages::Sheet;
+use stamp::{Stamped, numbers_of};
+use table::{Refusal, number_of, place_of};
 use translation::Setting;
 
 fn sheet(width: usize, length: usize) -> Sheet {
-    Sheet {
-        width: width,
-        length: length,
-    }
+    Sheet { width, length }
 }
 
 // With this symbol following, by the entries that have no end.
-fn follows(symbol: u8) -> Setting {
+fn follows(following: u8) -> Setting {
     Setting {
-        following: symbol,
+        following,
         year: 65535,
     }
 }
@@ -32,7 +31,7 @@ fn follows(symbol: u8) -> Setting {
 fn in_year(year: u16) -> Setting {
     Setting {
         following: b' ',
-        year: year,
+        year,
     }
 }
 
@@ -40,33 +39,25 @@ fn in_year(year: u16) -> Setting {
 fn show(rt: &HostRuntime, setting: Setting, image: &[u8], text: &[u8], sheet: Sheet) {
     let mut out = [170u8; 65536];
     let answer = layout::emboss(setting, image, text, sheet, &mut out);
-    console::print_answer(rt, answer);
-    console::print_pages(rt, &out[..answer.written()]);
+    let _ = console::print_answer(rt, answer);
+    if let Ok(Laid { written, .. }) = answer {
+        let _ = console::print_pages(rt, &out[..written]);
+    }
 }
 
-// Whether every byte is 170.
+// Whether every byte is as it was lent.
 fn as_lent(bytes: &[u8]) -> bool {
-    for byte in bytes {
-        if *byte != 170 {
-            return false;
-        }
-    }
-    true
+    bytes.iter().all(|byte| *byte == 170)
 }
 
-// Bytes to standard output. Where they don't go through nobody is told, and the run's comparison
-// finds it.
-fn print_words(rt: &HostRuntime, bytes: &[u8]) {
-    let _ = write_whole(&mut rt.stdout(), bytes);
-}
-
-// Whether the output is as lent.
+// Whether the output is as lent. Where words don't go through nobody is told, and the run's
+// comparison finds it.
 fn print_kept(rt: &HostRuntime, out: &[u8]) {
-    if as_lent(out) {
-        print_words(rt, b"kept\n");
+    let _ = if as_lent(out) {
+        println!(rt; "kept")
     } else {
-        print_words(rt, b"written\n");
-    }
+        println!(rt; "written")
+    };
 }
 
 // The answer, and whether the output is as lent.
@@ -79,7 +70,7 @@ fn tell(
     out: &mut [u8],
 ) {
     let answer = layout::emboss(setting, image, text, sheet, out);
-    console::print_answer(rt, answer);
+    let _ = console::print_answer(rt, answer);
     print_kept(rt, out);
 }
 
@@ -89,68 +80,63 @@ fn answered(rt: &HostRuntime, image: &[u8], text: &[u8], sheet: Sheet) {
     tell(rt, follows(b' '), image, text, sheet, &mut out);
 }
 
-fn print_value(rt: &HostRuntime, value: u64, after: u8) {
-    let mut digits = [0u8; 20];
-    let length = io::decimal(value, &mut digits);
-    print_words(rt, &digits[..length]);
-    print_words(rt, &[after]);
-}
-
 // The answer of a stamp.
-fn stamped(rt: &HostRuntime, image: &[u8]) {
+fn tell_stamp(rt: &HostRuntime, image: &[u8]) {
     let answer = stamp::stamp(image);
-    print_value(rt, answer.number() as u64, b' ');
-    print_value(rt, answer.place() as u64, b' ');
-    print_value(rt, answer.first() as u64, b' ');
-    print_value(rt, answer.second() as u64, b'\n');
+    let Stamped { first, second } = numbers_of(answer);
+    let _ = println!(rt;
+        "{} {} {first} {second}",
+        number_of(answer),
+        place_of(answer)
+    );
 }
 
 // The answer of a file, written or read.
-fn print_filed(rt: &HostRuntime, answer: Filed) {
-    print_value(rt, answer.number() as u64, b' ');
-    print_value(rt, answer.place() as u64, b' ');
-    print_value(rt, answer.written() as u64, b'\n');
+fn print_filed(rt: &HostRuntime, answer: Result<usize, Refusal>) {
+    let written = answer.unwrap_or(0);
+    let _ = println!(rt; "{} {} {written}", number_of(answer), place_of(answer));
 }
 
-fn print_byte(rt: &HostRuntime, byte: u8, after: u8) {
-    print_value(rt, byte as u64, after);
+fn print_six(rt: &HostRuntime, bytes: [u8; 6]) {
+    let [a, b, c, d, e, f] = bytes;
+    let _ = println!(rt; "{a} {b} {c} {d} {e} {f}");
 }
 
-fn print_six(rt: &HostRuntime, bytes: &[u8; 6]) {
-    print_byte(rt, bytes[0], b' ');
-    print_byte(rt, bytes[1], b' ');
-    print_byte(rt, bytes[2], b' ');
-    print_byte(rt, bytes[3], b' ');
-    print_byte(rt, bytes[4], b' ');
-    print_byte(rt, bytes[5], b'\n');
+// A file is written from a layout.
+fn write(layout: &[u8], sheet: Sheet, out: &mut [u8]) -> Result<usize, Refusal> {
+    files::write_file(layout, sheet, out)
 }
 
-// A file written from a layout, with six bytes lent.
-fn written(rt: &HostRuntime, layout: &[u8], sheet: Sheet) {
+// A layout is read from a file.
+fn read(file: &[u8], sheet: Sheet, out: &mut [u8]) -> Result<usize, Refusal> {
+    files::read_file(file, sheet, out)
+}
+
+// The answer of one of the two calls, with six bytes lent, and these after it.
+fn six<F: FnOnce(&[u8], Sheet, &mut [u8]) -> Result<usize, Refusal>>(
+    rt: &HostRuntime,
+    call: F,
+    bytes: &[u8],
+    sheet: Sheet,
+)
+    requires { F.IsAlwaysCallable call }
+{
     let mut out = [170u8; 6];
-    let answer = files::write_file(layout, sheet, &mut out);
-    print_filed(rt, answer);
-    print_six(rt, &out);
+    print_filed(rt, call(bytes, sheet, &mut out));
+    print_six(rt, out);
 }
 
-// A layout read from a file, with six bytes lent.
-fn read(rt: &HostRuntime, file: &[u8], sheet: Sheet) {
-    let mut out = [170u8; 6];
-    let answer = files::read_file(file, sheet, &mut out);
-    print_filed(rt, answer);
-    print_six(rt, &out);
-}
-
-// A layout written and a file read into what is lent, and whether it is as lent.
-fn tell_written(rt: &HostRuntime, layout: &[u8], sheet: Sheet, out: &mut [u8]) {
-    let answer = files::write_file(layout, sheet, out);
-    print_filed(rt, answer);
-    print_kept(rt, out);
-}
-
-fn tell_read(rt: &HostRuntime, file: &[u8], sheet: Sheet, out: &mut [u8]) {
-    let answer = files::read_file(file, sheet, out);
-    print_filed(rt, answer);
+// Its answer with these bytes lent, and whether they are as lent.
+fn lent<F: FnOnce(&[u8], Sheet, &mut [u8]) -> Result<usize, Refusal>>(
+    rt: &HostRuntime,
+    call: F,
+    bytes: &[u8],
+    sheet: Sheet,
+    out: &mut [u8],
+)
+    requires { F.IsAlwaysCallable call }
+{
+    print_filed(rt, call(bytes, sheet, out));
     print_kept(rt, out);
 }
 
@@ -268,33 +254,33 @@ fn in_years(rt: &HostRuntime, dated: &[u8]) {
 // stamp; with COM from 2016 to 2015 (11, at the first-year byte), which has no stamp.
 fn years(rt: &HostRuntime, image: &[u8]) {
     let mut dated = [0u8; 246];
-    movers::date(image, &mut dated);
+    let _ = movers::date(image, &mut dated);
     dated[75] = 140;
     dated[76] = 7;
     dated[77] = 223;
     dated[78] = 7;
     in_years(rt, &dated);
-    stamped(rt, &dated);
+    tell_stamp(rt, &dated);
     dated[75] = 224;
     answered(rt, &dated, &[b'A'], sheet(8, 2));
-    stamped(rt, &dated);
+    tell_stamp(rt, &dated);
 }
 
 // COME's layout, 36 17 64 65, as the whole call wrote it, is written as `-E`, line feed and form
 // feed; that file is read back; nothing at all is a good layout and a good file.
 fn good_files(rt: &HostRuntime, image: &[u8]) {
     let mut come = [0u8; 4];
-    layout::emboss(
+    let _ = layout::emboss(
         follows(b' '),
         image,
         &[b'C', b'O', b'M', b'E'],
         sheet(8, 2),
         &mut come,
     );
-    written(rt, &come, sheet(8, 2));
-    read(rt, &[b'-', b'E', 10, 12], sheet(8, 2));
-    written(rt, &[], sheet(8, 2));
-    read(rt, &[], sheet(8, 2));
+    six(rt, write, &come, sheet(8, 2));
+    six(rt, read, &[b'-', b'E', 10, 12], sheet(8, 2));
+    six(rt, write, &[], sheet(8, 2));
+    six(rt, read, &[], sheet(8, 2));
 }
 
 // Wrong files at W 8, P 2: a lower-case letter; a line that ends in a blank; a page without a line,
@@ -302,37 +288,37 @@ fn good_files(rt: &HostRuntime, image: &[u8]) {
 // length), and a file that stops short after a line; nine A (the ninth); seven A and a blank (the
 // blank, which no cell can follow); a third line.
 fn wrong_files(rt: &HostRuntime) {
-    read(rt, &[b'-', b'e', 10, 12], sheet(8, 2));
-    read(rt, &[b'-', b' ', 10, 12], sheet(8, 2));
-    read(rt, &[12], sheet(8, 2));
-    read(rt, &[b'-', 10, 12, 12], sheet(8, 2));
-    read(rt, &[b'-', b'E', 12], sheet(8, 2));
-    read(rt, &[b'-', 10, 12, b'E'], sheet(8, 2));
-    read(rt, &[b'-', b'E', 10], sheet(8, 2));
-    read(rt, &[65, 65, 65, 65, 65, 65, 65, 65, 65], sheet(8, 2));
-    read(rt, &[65, 65, 65, 65, 65, 65, 65, b' '], sheet(8, 2));
-    read(rt, &[65, 10, 10, 65, 10, 12], sheet(8, 2));
+    six(rt, read, &[b'-', b'e', 10, 12], sheet(8, 2));
+    six(rt, read, &[b'-', b' ', 10, 12], sheet(8, 2));
+    six(rt, read, &[12], sheet(8, 2));
+    six(rt, read, &[b'-', 10, 12, 12], sheet(8, 2));
+    six(rt, read, &[b'-', b'E', 12], sheet(8, 2));
+    six(rt, read, &[b'-', 10, 12, b'E'], sheet(8, 2));
+    six(rt, read, &[b'-', b'E', 10], sheet(8, 2));
+    six(rt, read, &[65, 65, 65, 65, 65, 65, 65, 65, 65], sheet(8, 2));
+    six(rt, read, &[65, 65, 65, 65, 65, 65, 65, b' '], sheet(8, 2));
+    six(rt, read, &[65, 10, 10, 65, 10, 12], sheet(8, 2));
 }
 
 // Wrong layouts, by the same rules: 66; a line that ends in a blank; a page without a line; cells
 // after the last 65 (place the length).
 fn wrong_layouts(rt: &HostRuntime) {
-    written(rt, &[36, 66, 64, 65], sheet(8, 2));
-    written(rt, &[36, 0, 64, 65], sheet(8, 2));
-    written(rt, &[65], sheet(8, 2));
-    written(rt, &[36, 64, 65, 17], sheet(8, 2));
+    six(rt, write, &[36, 66, 64, 65], sheet(8, 2));
+    six(rt, write, &[36, 0, 64, 65], sheet(8, 2));
+    six(rt, write, &[65], sheet(8, 2));
+    six(rt, write, &[36, 64, 65, 17], sheet(8, 2));
 }
 
 // W 7 and P 41, with a wrong file too; three bytes lent where four are needed, and four; a wrong
 // file with no byte lent.
 fn sizes_and_room(rt: &HostRuntime) {
     let come = [b'-', b'E', 10, 12];
-    written(rt, &[36, 17, 64, 65], sheet(7, 2));
-    read(rt, &[b'e'], sheet(8, 41));
-    tell_written(rt, &[36, 17, 64, 65], sheet(8, 2), &mut [170; 3]);
-    tell_read(rt, &come, sheet(8, 2), &mut [170; 3]);
-    tell_read(rt, &come, sheet(8, 2), &mut [170; 4]);
-    tell_read(rt, &[b'e'], sheet(8, 2), &mut [170; 0]);
+    six(rt, write, &[36, 17, 64, 65], sheet(7, 2));
+    six(rt, read, &[b'e'], sheet(8, 41));
+    lent(rt, write, &[36, 17, 64, 65], sheet(8, 2), &mut [170; 3]);
+    lent(rt, read, &come, sheet(8, 2), &mut [170; 3]);
+    lent(rt, read, &come, sheet(8, 2), &mut [170; 4]);
+    lent(rt, read, &[b'e'], sheet(8, 2), &mut [170; 0]);
 }
 
 fn files(rt: &HostRuntime, image: &[u8]) {
@@ -351,7 +337,7 @@ fn all(rt: &HostRuntime, image: &[u8]) {
     orders(rt, image);
     sections(rt, image);
     years(rt, image);
-    stamped(rt, image);
+    tell_stamp(rt, image);
     files(rt, image);
 }
 
@@ -360,8 +346,7 @@ fn all(rt: &HostRuntime, image: &[u8]) {
 fn main(rt: HostRuntime) {
     let rt = &rt;
     let mut image = [0u8; 32768];
-    let table = console::read_table(rt, &mut image);
-    let held = table.count;
+    let held = console::read_table(rt, &mut image).unwrap_or(0);
     all(rt, &image[..held]);
     image[31] = 6;
     answered(rt, &image[..held], &[65], sheet(8, 2));

@@ -11,11 +11,11 @@ use native.Mathlib.Decide.{dec_lt}
 use native.Mathlib.Omega.{arith}
 use lib.ListN.{length, get_or, get_or-eq_default}
 use lib.Seq.{ext_get_or}
+use Rattle.std.specs.Prelude.{Ok}
 use Rattle.table.specs.Lists.{All}
 use Rattle.table.specs.Numbers.{trailer_size, second_mark_byte, second_mark, dated_mark, entry_size, dated_entry_size, first_year_byte, last_year_byte, earliest_year, latest_year}
 use Rattle.table.specs.Sections.{byte_at, number_at, trailer_at, distance, is_dated, offset, record_byte, first_year, last_year}
 use Rattle.table.specs.Verdict.{verdict_of}
-use Rattle.table.specs.declared.Verdict.TheVariants.{Accepted}
 use Rattle.table.proofs.Tests.{clash}
 use Rattle.table.proofs.Lists.{all_at}
 use Rattle.table.proofs.Forms.{tells_dated, dated_years, undated_size, dated_size, form_marked}
@@ -44,12 +44,12 @@ record Own (image years : List ℕ) (mark : ℕ) : Type 0 where
   mark_is : byte_at image (trailer_at image + second_mark_byte) ≡ mark
   years_are : (k j : ℕ) → k < (entries_of image).records → j < length years → record_byte image (entries_of image) k (entry_size + j) ≡ get_or years j 0
 
-module _ (image : List ℕ) (accepts : verdict_of image ≡ Accepted) (none_dated : first_dated image ≡ none) (bytes : Bytes image)
+module _ (image : List ℕ) (accepts : verdict_of image ≡ Ok tt) (none_dated : first_dated image ≡ none) (bytes : Bytes image)
     (years : List ℕ) (mark : ℕ) (form : Form years mark) (own_years : List ℕ) (own_mark : ℕ) (own : Own image own_years own_mark) where
   abbrev moved : List ℕ
   moved = moved_image years mark image
 
-  moved_right : verdict_of moved ≡ Accepted
+  moved_right : verdict_of moved ≡ Ok tt
   moved_right = moved_accepted image accepts years mark form none_dated
 
   abbrev again : List ℕ
@@ -234,7 +234,7 @@ module _ (image : List ℕ) (accepts : verdict_of image ≡ Accepted) (none_date
 
 -- ---- The two round trips
 
-own_undated : (image : List ℕ) → verdict_of image ≡ Accepted → is_dated image ≡ false → Own image [] second_mark
+own_undated : (image : List ℕ) → verdict_of image ≡ Ok tt → is_dated image ≡ false → Own image [] second_mark
 own_undated image accepts old =
     record {
       size_is = (placed image accepts).size ∙ undated_size image old;
@@ -247,7 +247,7 @@ own_undated image accepts old =
     go (inl e) = e
     go (inr e) = absurd (clash ((tells_dated image).1 e) old)
 
-own_dated : (image : List ℕ) → verdict_of image ≡ Accepted → is_dated image ≡ true → first_dated image ≡ none → Bytes image → Own image always dated_mark
+own_dated : (image : List ℕ) → verdict_of image ≡ Ok tt → is_dated image ≡ true → first_dated image ≡ none → Bytes image → Own image always dated_mark
 unfolding number_bytes number_at record_byte
 own_dated image accepts new none_dated bytes =
     record {
@@ -297,7 +297,7 @@ own_dated image accepts new none_dated bytes =
             s ∙ omega arith
         by_byte (suc (suc (suc (suc j)))) u = absurd (omega arith)
 
-module _ (image : List ℕ) (accepts : verdict_of image ≡ Accepted) (bytes : Bytes image) where
+module _ (image : List ℕ) (accepts : verdict_of image ≡ Ok tt) (bytes : Bytes image) where
   pub dated_and_back : is_dated image ≡ false → undated_image (dated_image image) ≡ image
   dated_and_back old =
       back image accepts (undated_none image old) bytes always dated_mark dated [] second_mark (own_undated image accepts old)

@@ -7,18 +7,17 @@ use mathlib.Core.Option.{Option, none, some}
 use mathlib.Core.Path.{◌≡◌, refl, sym, ◌∙◌, ap, subst}
 use lib.ListN.{length, drop}
 use lib.Seq.{take-append_seam}
+use Rattle.std.specs.Prelude.{Ok}
 use Rattle.table.specs.Numbers.{number_done}
 use Rattle.table.specs.Sections.{is_dated}
 use Rattle.table.specs.Verdict.{verdict_of}
-use Rattle.table.specs.declared.Verdict.TheVariants.{Accepted}
 use Rattle.table.proofs.Tests.{fails_law}
 use Rattle.table.proofs.Forms.{tells_dated}
 use Rattle.table.proofs.Refusals.{accepted_exactly_when}
 use Rattle.dates.specs.Forms.{dated_image, undated_image, first_dated}
-use Rattle.dates.specs.Moving.{number, wrote, Outcome, done, dating, undating}
+use Rattle.dates.specs.Moving.{Moved, number, wrote, Outcome, done, dating, undating}
 use Rattle.dates.specs.Promises.{Ends}
 use Rattle.dates.specs.Refusals.{Move, onward, back, moved_by, calling, other_form, of_table, line_17}
-use Rattle.dates.specs.declared.Moved.{Moved}
 use Rattle.dates.proofs.Outcomes.{roomed_done, date_moves, undate_moves}
 use Rattle.dates.proofs.Movers.{dated_is_dated, undated_is_undated, dated_accepted, undated_accepted, dated_none}
 use Rattle.dates.proofs.Back.{Bytes, dated_and_back, undated_and_back}
@@ -31,7 +30,7 @@ WrittenBack image before answer after = Ends (done before image) answer after
 -- ---- What a done call tells of its image
 
 module _ (move : Move) (image out : List ℕ) (is_done : number (calling move image out).answer ≡ number_done) where
-  took_accepted : verdict_of image ≡ Accepted
+  took_accepted : verdict_of image ≡ Ok tt
   took_accepted = (accepted_exactly_when image).1 (λ t n p x. (done_exactly_when move image out).0 is_done t n p (of_table x))
 
   -- what it wrote is the moved image
@@ -55,14 +54,14 @@ undate_took image out is_done = (of_form (is_dated image) refl, of_years (first_
 
 -- ---- There and back
 
-undate_of_dated : (image room : List ℕ) → Bytes image → verdict_of image ≡ Accepted → is_dated image ≡ false → length image ≤ length room
+undate_of_dated : (image room : List ℕ) → Bytes image → verdict_of image ≡ Ok tt → is_dated image ≡ false → length image ≤ length room
     → undating (dated_image image) room ≡ done room image
 undate_of_dated image room bytes accepts old fits =
     let same = dated_and_back image accepts bytes old in
     undate_moves (dated_image image) room (dated_is_dated image accepts) (dated_accepted image accepts old) (dated_none image accepts)
     ∙ rw same (roomed_done room image fits)
 
-date_of_undated : (image room : List ℕ) → Bytes image → verdict_of image ≡ Accepted → is_dated image ≡ true → first_dated image ≡ none
+date_of_undated : (image room : List ℕ) → Bytes image → verdict_of image ≡ Ok tt → is_dated image ≡ true → first_dated image ≡ none
     → length image ≤ length room → dating (undated_image image) room ≡ done room image
 date_of_undated image room bytes accepts new none_dated fits =
     let same = undated_and_back image accepts bytes new none_dated in

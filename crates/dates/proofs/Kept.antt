@@ -9,6 +9,7 @@ use native.Mathlib.Nat.{div-eq_of_eq-mul_right}
 use native.Mathlib.Omega.{arith}
 use lib.ListN.{length, get_or}
 use borrow.Author.Tests.{eqb-true, not-false}
+use Rattle.std.specs.Prelude.{Ok}
 use Rattle.table.specs.Numbers.{classes_byte, variables_byte, first_mark_byte, second_mark_byte, second_mark, dated_mark, entry_size, letter_size, context_size, first_year_byte, last_year_byte, earliest_year, latest_year}
 use Rattle.table.specs.Sections.{byte_at, number_at, trailer_at, distance, classes_in, variables_in, entry_size_in, section_at, last_section, sections_in, sections_of, offset, record_byte, first_year, last_year}
 use Rattle.table.specs.Refusals.{EntryForm, old_form, new_form, FrameRight}
@@ -18,7 +19,6 @@ use Rattle.table.specs.Verdict.{strings, verdict_of}
 use Rattle.table.specs.Laid.{SectionsLaid}
 use Rattle.table.specs.declared.Section.{Section}
 use Rattle.table.specs.declared.Sections.{Sections}
-use Rattle.table.specs.declared.Verdict.TheVariants.{Accepted}
 use Rattle.table.proofs.Tests.{both, tells_eq}
 use Rattle.table.proofs.Search.{first_missing, first_is_not}
 use Rattle.table.proofs.Forms.{form_size, dated_years, undated_years}
@@ -52,7 +52,7 @@ module _ (image : List ℕ) (none_dated : first_dated image ≡ none) where
 
 -- ---- The frame
 
-module _ (image : List ℕ) (accepts : verdict_of image ≡ Accepted) (years : List ℕ) (mark : ℕ) (form : Form years mark) where
+module _ (image : List ℕ) (accepts : verdict_of image ≡ Ok tt) (years : List ℕ) (mark : ℕ) (form : Form years mark) where
   abbrev p : Placed image
   p = placed image accepts
 
@@ -314,7 +314,7 @@ module _ (image : List ℕ) (accepts : verdict_of image ≡ Accepted) (years : L
         ((accepted image).0 accepts).1
         (subst (SectionsLaid other) located_moved (sections_laid other ((frame_right_lem other).1 frame_moved)))
 
-    pub moved_accepted : verdict_of (moved_image years mark image) ≡ Accepted
+    pub moved_accepted : verdict_of (moved_image years mark image) ≡ Ok tt
     moved_accepted =
         let h = (accepted image).0 accepts in
         (accepted other).1 (

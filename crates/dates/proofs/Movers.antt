@@ -6,11 +6,11 @@ use mathlib.Core.List.{List, []}
 use mathlib.Core.Option.{none}
 use mathlib.Core.Path.{◌≡◌, ◌∙◌, ap}
 use native.Mathlib.Omega.{arith}
+use Rattle.std.specs.Prelude.{Ok}
 use Rattle.table.specs.Numbers.{second_mark, dated_mark, earliest_year, latest_year}
 use Rattle.table.specs.Sections.{distance, is_dated, entry_size_in, first_year, last_year}
 use Rattle.table.specs.Table.{table_of}
 use Rattle.table.specs.Verdict.{verdict_of}
-use Rattle.table.specs.declared.Verdict.TheVariants.{Accepted}
 use Rattle.table.proofs.Tests.{tells_eq, fails_law}
 use Rattle.table.proofs.Search.{first_is_not}
 use Rattle.table.proofs.Forms.{tells_dated, dated_size, undated_size, undated_years}
@@ -32,7 +32,7 @@ undated_none image old =
 
 -- ---- The moved table is accepted, in the other form, and is the same table
 
-module _ (image : List ℕ) (accepts : verdict_of image ≡ Accepted) where
+module _ (image : List ℕ) (accepts : verdict_of image ≡ Ok tt) where
   pub dated_is_dated : is_dated (dated_image image) ≡ true
   dated_is_dated = (tells_dated (dated_image image)).1 (mark_moved image accepts always dated_mark)
 
@@ -41,13 +41,13 @@ module _ (image : List ℕ) (accepts : verdict_of image ≡ Accepted) where
       let e = mark_moved image accepts [] second_mark in
       (fails_law (tells_dated (undated_image image))).1 (λ d. omega arith)
 
-  pub dated_accepted : is_dated image ≡ false → verdict_of (dated_image image) ≡ Accepted
+  pub dated_accepted : is_dated image ≡ false → verdict_of (dated_image image) ≡ Ok tt
   dated_accepted old = moved_accepted image accepts always dated_mark dated (undated_none image old)
 
   pub dated_table : is_dated image ≡ false → table_of (dated_image image) ≡ table_of image
   dated_table old = moved_table image accepts always dated_mark dated (undated_none image old)
 
-  pub undated_accepted : first_dated image ≡ none → verdict_of (undated_image image) ≡ Accepted
+  pub undated_accepted : first_dated image ≡ none → verdict_of (undated_image image) ≡ Ok tt
   undated_accepted none_dated = moved_accepted image accepts [] second_mark undated none_dated
 
   pub undated_table : first_dated image ≡ none → table_of (undated_image image) ≡ table_of image
@@ -59,7 +59,7 @@ module _ (image : List ℕ) (accepts : verdict_of image ≡ Accepted) where
 
 -- ---- The first two distances, in the paper's words: each record grows by four bytes, and shrinks by them
 
-module _ (image : List ℕ) (accepts : verdict_of image ≡ Accepted) where
+module _ (image : List ℕ) (accepts : verdict_of image ≡ Ok tt) where
   -- the records, as they are, lie before the trailer
   reached : (size : ℕ) → entry_size_in image ≡ size
       → ((entries_of image).size * (entries_of image).records ≡ size * (entries_of image).records)

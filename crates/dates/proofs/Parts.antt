@@ -7,11 +7,11 @@ use native.Mathlib.Nat.{mod-lt, mod-add-div}
 use native.Mathlib.Omega.{arith}
 use lib.ListN.{length, get_or, take, drop, length-append, length-drop, get_or-append}
 use lib.Seq.{length-take-le, get_or-take, get_or-drop, get_or-append-add}
+use Rattle.std.specs.Prelude.{Ok}
 use Rattle.table.specs.Numbers.{trailer_size, entry_size, second_mark_byte}
 use Rattle.table.specs.Sections.{byte_at, number_at, bytes_from, trailer_at, distance, sections_of, offset, record_byte, record_part}
 use Rattle.table.specs.Verdict.{verdict_of}
 use Rattle.table.specs.declared.Section.{Section}
-use Rattle.table.specs.declared.Verdict.TheVariants.{Accepted}
 use Rattle.table.proofs.Reading.{part_long, part_at, entry_inside, accepted_laid, accepted_right}
 use Rattle.dates.specs.Forms.{entries_of, number_bytes, moved_entry, moved_entries, moved_distance, moved_trailer, moved_image}
 use Rattle.dates.proofs.Blocks.{in_block, blocks_length, block_at, parts_length, in_first, in_second, in_third, in_fourth}
@@ -84,7 +84,7 @@ module _ (years image : List ℕ) (entries : Section) (lie : Lie image entries) 
 
 -- ---- The moved image of an accepted one
 
-module _ (image : List ℕ) (accepts : verdict_of image ≡ Accepted) (years : List ℕ) (mark : ℕ) where
+module _ (image : List ℕ) (accepts : verdict_of image ≡ Ok tt) (years : List ℕ) (mark : ℕ) where
   abbrev p : Placed image
   p = placed image accepts
 

@@ -5,12 +5,12 @@ use mathlib.Core.Path.{◌≡◌, refl, sym, ◌∙◌, ap, subst}
 use native.Mathlib.Nat.{div-eq_of_eq-mul_right}
 use native.Mathlib.Omega.{arith}
 use lib.ListN.{length}
+use Rattle.std.specs.Prelude.{Ok}
 use Rattle.table.specs.Numbers.{trailer_size, letter_size, least_letters, most_letters, least_entries, most_entries, context_size, least_contexts, most_contexts, least_columns, most_columns}
 use Rattle.table.specs.Sections.{trailer_at, distance, classes_in, variables_in, entry_size_in, section_at, sections_in, sections_of}
 use Rattle.table.specs.Refusals.{Between, WholeRecords, FrameRight}
 use Rattle.table.specs.Verdict.{verdict_of}
 use Rattle.table.specs.declared.Sections.{Sections}
-use Rattle.table.specs.declared.Verdict.TheVariants.{Accepted}
 use Rattle.table.proofs.Forms.{form_size, entry_long}
 use Rattle.table.proofs.Frame.{frame_right_lem, sections_framed}
 use Rattle.table.proofs.Refusals.{accepted}
@@ -69,7 +69,7 @@ placed_framed image f =
       decisions = counted (omega arith) f.decisions_whole;
     }
 
-pub placed : (image : List ℕ) → verdict_of image ≡ Accepted → Placed image
+pub placed : (image : List ℕ) → verdict_of image ≡ Ok tt → Placed image
 placed image accepts = placed_framed image ((accepted image).0 accepts).0
 
 -- the parts one after the other, as sums
@@ -90,7 +90,7 @@ as_sums : (bytes trailer first second third start entries next : ℕ) → traile
     → (start + entries + third + trailer_size ≡ bytes) × (next ≡ start + entries)
 as_sums bytes trailer first second third start entries next a b c d e f g h = (omega arith, omega arith)
 
-pub laid_out : (image : List ℕ) → verdict_of image ≡ Accepted → Laid image
+pub laid_out : (image : List ℕ) → verdict_of image ≡ Ok tt → Laid image
 unfolding trailer_at
 laid_out image accepts =
     let p = placed image accepts in

@@ -2,9 +2,9 @@
 use Prim.Native.Nat.{ℕ}
 use mathlib.Core.List.{List}
 use mathlib.Core.Path.{◌≡◌, sym, ◌∙◌}
-use Rattle.dates.specs.Moving.{Outcome, dating, undating}
+use Rattle.table.proofs.Promises.{tells_determined}
+use Rattle.dates.specs.Moving.{Moved, Outcome, dating, undating}
 use Rattle.dates.specs.Promises.{Ends, Tells}
-use Rattle.dates.specs.declared.Moved.{Moved}
 
 ends_determined : {outcome : Outcome} {a b : Moved} {x y : List ℕ} → Ends outcome a x → Ends outcome b y → (a ≡ b) × (x ≡ y)
 ends_determined p q = (p.answers ∙ sym q.answers, p.leaves ∙ sym q.leaves)
@@ -17,6 +17,6 @@ pub undate_determined : (image before : List ℕ) {a b : Moved} {x y : List ℕ}
     → (a ≡ b) × (x ≡ y)
 undate_determined image before p q = ends_determined p q
 
--- `Moved::number`, `place`, `written`
-pub value_determined : {value : Moved → ℕ} {moved : Moved} {a b : ℕ} → Tells value moved a → Tells value moved b → a ≡ b
-value_determined p q = p.is ∙ sym q.is
+-- the number, the place and the bytes written of an answer
+pub value_determined : {value : Moved → ℕ} {answer : Moved} {a b : ℕ} → Tells value answer a → Tells value answer b → a ≡ b
+value_determined = tells_determined

@@ -12,6 +12,7 @@ use native.Mathlib.Omega.{arith}
 use lib.ListN.{length, drop}
 use lib.Seq.{drop-append_seam}
 use borrow.Author.Tests.{not-true, not-false}
+use Rattle.std.specs.Prelude.{Ok, Err}
 use Rattle.table.specs.Numbers.{number_done, earliest_year, latest_year}
 use Rattle.table.specs.Answers.{refusal_number, refusal_place}
 use Rattle.table.specs.FirstLine.{FirstLine}
@@ -20,8 +21,7 @@ use Rattle.table.specs.Sections.{is_dated, offset, first_year, last_year}
 use Rattle.table.specs.Verdict.{verdict_of}
 use Rattle.table.specs.declared.Refusal.{Refusal}
 use Rattle.table.specs.declared.Refusal.TheVariants.{Frame, Dated, Room}
-use Rattle.table.specs.declared.Verdict.{Verdict}
-use Rattle.table.specs.declared.Verdict.TheVariants.{Accepted, Refused as NotAccepted}
+use Rattle.table.specs.Answers.{Verdict}
 use Rattle.table.proofs.Tests.{Tells, tells_and, tells_eq, fails_law}
 use Rattle.table.proofs.Search.{first_found, first_is}
 use Rattle.table.proofs.Forms.{tells_dated}
@@ -117,7 +117,7 @@ module _ (move : Move) (image out : List ℕ) where
         before t n p l (line_17 m x) = let w = TableLaws.within_table image f.line in omega arith
         before t n p l (line_8 x) = let w = TableLaws.within_table image f.line in omega arith
 
-    module _ (accepts : verdict_of image ≡ Accepted) where
+    module _ (accepts : verdict_of image ≡ Ok tt) where
       table_passed : NoneBefore Holds (table_lines + 1)
       table_passed t n p l (other_form x) = own x
       table_passed t n p l (of_table x) = (TableLaws.accepted_exactly_when image).0 accepts t n p x
@@ -173,20 +173,20 @@ told onward image out = go (is_dated image) refl (verdict_of image) refl (TableL
   where
     go : (b : Bool) → is_dated image ≡ b → (v : Verdict) → verdict_of image ≡ v → TableLaws.VerdictTold image v → Told onward image out (dating image out)
     go true e v f h = told_other onward image out ((tells_dated image).0 e) (date_other image out e)
-    go false e (NotAccepted r) f (TableLaws.table_refused h l) =
+    go false e (Err r) f (TableLaws.table_refused h l) =
         told_table onward image out ((fails_law (tells_dated image)).0 e) r h l (date_refused image out r e f)
-    go false e Accepted f (TableLaws.table_accepted no_line) =
+    go false e (Ok tt) f (TableLaws.table_accepted no_line) =
         told_room onward image out ((fails_law (tells_dated image)).0 e) f (λ at m x. let z : ◌≡◌ {A = ℕ} 0 1 = cc in omega arith) (date_moves image out e f)
 told back image out = go (is_dated image) refl (verdict_of image) refl (TableLaws.verdict_told image) (first_dated image) refl
   where
     go : (b : Bool) → is_dated image ≡ b → (v : Verdict) → verdict_of image ≡ v → TableLaws.VerdictTold image v → (o : Option ℕ) → first_dated image ≡ o
         → Told back image out (undating image out)
     go false e v f h o d = told_other back image out ((fails_law (tells_dated image)).0 e) (undate_other image out e)
-    go true e (NotAccepted r) f (TableLaws.table_refused h l) o d =
+    go true e (Err r) f (TableLaws.table_refused h l) o d =
         told_table back image out (λ other. other ((tells_dated image).0 e)) r h l (undate_refused image out r e f)
-    go true e Accepted f (TableLaws.table_accepted no_line) (some k) d =
+    go true e (Ok tt) f (TableLaws.table_accepted no_line) (some k) d =
         told_dated back image out (λ other. other ((tells_dated image).0 e)) f k refl d (undate_dated image out k e f d)
-    go true e Accepted f (TableLaws.table_accepted no_line) none d =
+    go true e (Ok tt) f (TableLaws.table_accepted no_line) none d =
         told_room back image out (λ other. other ((tells_dated image).0 e)) f (λ at m x. none_dated_first image d x) (undate_moves image out e f d)
 
 module _ (move : Move) (image out : List ℕ) where

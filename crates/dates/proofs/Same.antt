@@ -10,7 +10,9 @@ use lib.Seq.{ext_get_or}
 use Rattle.table.specs.Numbers.{letter_size, entry_size, context_size, string_byte, context_byte, length_byte, entry_class_byte, shift_byte, signs_byte, entry_signs, symbol_byte, letter_class_byte, letter_sign_byte}
 use Rattle.table.specs.Search.{list_from, list_of}
 use Rattle.table.specs.Sections.{offset, record_byte, record_part, first_year, last_year}
-use Rattle.table.specs.Records.{SectionName, alphabet, contractions, contexts, transitions, decisions, section_named}
+use Rattle.table.specs.Records.{section_named}
+use Rattle.table.specs.declared.SectionName.{SectionName}
+use Rattle.table.specs.declared.SectionName.TheVariants.{Alphabet as alphabet, Contractions as contractions, Contexts as contexts, Transitions as transitions, Decisions as decisions}
 use Rattle.table.specs.Refusals.{IsClass, IsLetterSign, IsEntrySign, IsTransition, IsDecision, IsCondition, ContextExists, InAlphabet, RightRecord, There, RecordsRight}
 use Rattle.table.specs.Table.{letter_at, entry_at, context_at, transition_at, column_at, table_in}
 use Rattle.table.specs.Laid.{SectionsLaid}

@@ -8,6 +8,8 @@ use Rattle.table.specs.Numbers.{low_byte_room, distance_size, second_mark_byte, 
 use Rattle.table.specs.Search.{first, list_of}
 use Rattle.table.specs.Sections.{bytes_from, trailer_at, distance, sections_of, record_part, first_year, last_year}
 use Rattle.table.specs.declared.Section.{Section}
+use Rattle.dates.specs.declared.Form.{Form}
+use Rattle.dates.specs.declared.Form.TheVariants.{Undated, Dated}
 
 -- the contraction records
 abbrev pub entries_of : List ℕ → Section
@@ -53,6 +55,18 @@ moved_image years mark image =
     ++ moved_trailer years mark image
 
 -- ---- The two moves
+
+-- the years that each record gets in a form, and the trailer's last byte
+abbrev pub years_in : Form → List ℕ
+years_in Undated = []
+years_in Dated = always
+
+abbrev pub mark_in : Form → ℕ
+mark_in Undated = second_mark
+mark_in Dated = dated_mark
+
+abbrev pub image_in : Form → List ℕ → List ℕ
+image_in form image = moved_image (years_in form) (mark_in form) image
 
 abbrev pub dated_image : List ℕ → List ℕ
 dated_image image = moved_image always dated_mark image

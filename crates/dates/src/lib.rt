@@ -1,15 +1,11 @@
 // The two forms of a table, and what moving it from one to the other means: definitions in specs/,
-// their laws, and the answer of a mover. The movers themselves are in movers.
+// and their laws. The movers themselves are in movers.
 
 #![tactic(auto)]
 
-mod answering;
-
-use table::Refusal;
-
-// What a mover answers.
-#[derive(Clone, Copy)]
-pub enum Moved {
-    Done { written: usize },
-    Refused(Refusal),
+// The form of a table: without years on its entries, or with them.
+#[derive(Clone, Copy, Debug, PartialEq, Eq)]
+pub enum Form {
+    Undated,
+    Dated,
 }

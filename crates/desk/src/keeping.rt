@@ -5,7 +5,7 @@
 ghost use Rattle.std.specs.Prelude.{◌≡◌, ◌+◌, ◌≤◌, length};
 ghost use Rattle.io.specs.Counts.{IsPrefixLen};
 
-use crate::explaining::front;
+use crate::Failure;
 use crate::saying::{argument, failed, printed, say};
 use console::{not_text, write_whole};
 use std::fs::{File, OpenOptions, Permissions};
@@ -27,21 +27,23 @@ fn fill(mut file: File, bytes: &[u8]) -> Result<(), Error> {
 }
 
 // Takes the new file away again, and says what failed.
-fn drop_made(rt: &HostRuntime, made: &str, to: &str, error: Error) -> i32 {
-    let status = failed(rt, to.as_bytes(), error);
+fn drop_made(rt: &HostRuntime, made: &str, to: &str, error: Error) -> Failure {
+    let failure = failed(rt, to.as_bytes(), error);
     let _ = std::fs::remove_file(rt, made);
-    status
+    failure
 }
 
 // The new file `made`, which is open, gets the bytes and then the name `to`.
-fn fill_and_rename(rt: &HostRuntime, file: File, made: &str, to: &str, bytes: &[u8]) -> i32 {
-    if let Err(error) = fill(file, bytes) {
-        return drop_made(rt, made, to, error);
-    }
-    match std::fs::rename(rt, made, to) {
-        Ok(()) => 0,
-        Err(error) => drop_made(rt, made, to, error),
-    }
+fn fill_and_rename(
+    rt: &HostRuntime,
+    file: File,
+    made: &str,
+    to: &str,
+    bytes: &[u8],
+) -> Result<(), Failure> {
+    fill(file, bytes)
+        .and_then(|()| std::fs::rename(rt, made, to))
+        .map_err(|error| drop_made(rt, made, to, error))
 }
 
 // The name of a new file beside the one of this name, and how long it is.
@@ -61,7 +63,7 @@ fn name_beside(to: &[u8], made: &mut [u8]) -> usize
 fn choose(rt: &HostRuntime, word: &mut [u8]) -> Result<(), Error> {
     rt.fill_bytes(word)?;
     for byte in word {
-        *byte = CHARACTERS[(*byte % 62) as usize];
+        *byte = CHARACTERS[usize::from(*byte % 62)];
     }
     Ok(())
 }
@@ -81,16 +83,10 @@ fn create_temp(rt: &HostRuntime, made: &mut [u8]) -> Result<File, Error> {
     let from = made.len().saturating_sub(6);
     for _ in 0..TRIES {
         choose(rt, &mut made[from..])?;
-        match std::str::from_utf8(made) {
-            Ok(name) => match create_new(rt, name) {
-                Ok(file) => return Ok(file),
-                Err(error) => {
-                    if error.kind() != ErrorKind::AlreadyExists {
-                        return Err(error);
-                    }
-                }
-            },
-            Err(_) => return Err(not_text()),
+        let name = std::str::from_utf8(made).map_err(|_| not_text())?;
+        match create_new(rt, name) {
+            Err(error) if error.kind() == ErrorKind::AlreadyExists => {}
+            created => return created,
         }
     }
     Err(Error::from(ErrorKind::AlreadyExists))
@@ -98,56 +94,49 @@ fn create_temp(rt: &HostRuntime, made: &mut [u8]) -> Result<File, Error> {
 
 // The new file of the name `made`, whose last six bytes are chosen, gets the bytes and then the name
 // `to`.
-fn keep_by(rt: &HostRuntime, made: &mut [u8], to: &[u8], bytes: &[u8]) -> i32 {
-    match create_temp(rt, made) {
-        Ok(file) => match (std::str::from_utf8(made), std::str::from_utf8(to)) {
-            (Ok(name), Ok(as_name)) => fill_and_rename(rt, file, name, as_name, bytes),
-            _ => failed(rt, to, not_text()),
-        },
-        Err(error) => failed(rt, to, error),
+fn keep_by(rt: &HostRuntime, made: &mut [u8], to: &[u8], bytes: &[u8]) -> Result<(), Failure> {
+    let file = create_temp(rt, made).map_err(|error| failed(rt, to, error))?;
+    match (std::str::from_utf8(made), std::str::from_utf8(to)) {
+        (Ok(made), Ok(to)) => fill_and_rename(rt, file, made, to, bytes),
+        _ => Err(failed(rt, to, not_text())),
     }
 }
 
 // A new file beside the one of this name.
-fn keep_as(rt: &HostRuntime, to: &[u8], bytes: &[u8]) -> i32 {
+fn keep_as(rt: &HostRuntime, to: &[u8], bytes: &[u8]) -> Result<(), Failure> {
     let mut made = io::buffer();
     if 4080 < to.len() {
         say(rt, b"press: the name after -o has more than 4,080 bytes\n");
-        return 3;
+        return Err(Failure::System);
     }
     let end = name_beside(to, &mut made);
     keep_by(rt, &mut made[..end], to, bytes)
 }
 
 // To standard output.
-pub fn print(rt: &HostRuntime, bytes: &[u8]) -> i32 {
+pub fn print(rt: &HostRuntime, bytes: &[u8]) -> Result<(), Failure> {
     printed(rt, write_whole(&mut rt.stdout(), bytes))
 }
 
-// Whether a name is one of a device, which no file shall replace.
-fn is_device(name: &[u8]) -> bool {
-    front(name, 5) == b"/dev/".as_slice()
-}
-
-// To the file of this name.
-fn keep_named(rt: &HostRuntime, name: &[u8], bytes: &[u8]) -> i32 {
-    if is_device(name) {
+// To the file of this name. A device is none that a file shall replace.
+fn keep_named(rt: &HostRuntime, name: &[u8], bytes: &[u8]) -> Result<(), Failure> {
+    if name.starts_with(b"/dev/") {
         say(
             rt,
             b"press: -o wants the name of a file, not that of a device, '",
         );
         say(rt, name);
         say(rt, b"'\n");
-        return 2;
+        return Err(Failure::Usage);
     }
     keep_as(rt, name, bytes)
 }
 
-// To the file that argument `i` names, or to standard output where it is 0.
-pub fn keep(rt: &HostRuntime, i: usize, bytes: &[u8]) -> i32 {
-    if i == 0 {
+// To the file that argument `to` names, or to standard output where there is none.
+pub fn keep(rt: &HostRuntime, to: Option<usize>, bytes: &[u8]) -> Result<(), Failure> {
+    let Some(i) = to else {
         return print(rt, bytes);
-    }
+    };
     let mut name = io::buffer();
     let length = argument(rt, i, &mut name);
     keep_named(rt, &name[..length], bytes)

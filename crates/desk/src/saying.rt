@@ -3,26 +3,23 @@
 
 ghost use Rattle.io.specs.Counts.{IsPrefixLen};
 
+use crate::Failure;
 use console::fail;
 pub use console::say;
 use std::env::Env;
 use std::io::Error;
 
 pub fn say_number(rt: &HostRuntime, n: usize) {
-    let mut digits = [0u8; 20];
-    let length = io::decimal(n as u64, &mut digits);
-    say(rt, &digits[..length]);
+    let _ = eprint!(rt; "{n}");
 }
 
 // Puts argument `i` at the start of the buffer: how long it is, and 0 where there is none or it is
-// longer than the buffer.
+// longer than the buffer. Kept: an Option would be no plainer, since all callers take no name for an
+// empty one.
 pub fn argument(rt: &HostRuntime, i: usize, word: &mut [u8]) -> usize
     ensures { IsPrefixLen result word.new }
 {
-    match rt.arg(i, word) {
-        Ok(length) => length,
-        Err(_) => 0,
-    }
+    rt.arg(i, word).unwrap_or(0)
 }
 
 // The name of an argument, as it was given.
@@ -32,17 +29,14 @@ pub fn say_argument(rt: &HostRuntime, i: usize) {
     say(rt, &word[..length]);
 }
 
-// What failed, a colon and the system's reason: status 3.
-pub fn failed(rt: &HostRuntime, what: &[u8], error: Error) -> i32 {
+// What failed, a colon and the system's reason.
+pub fn failed(rt: &HostRuntime, what: &[u8], error: Error) -> Failure {
     say(rt, b"press: ");
     fail(rt, what, error);
-    3
+    Failure::System
 }
 
-// The status after printing, where the reason is said if it didn't go through.
-pub fn printed(rt: &HostRuntime, done: Result<(), Error>) -> i32 {
-    match done {
-        Ok(()) => 0,
-        Err(error) => failed(rt, b"standard output", error),
-    }
+// What printing came to. Where it didn't go through the reason is said.
+pub fn printed(rt: &HostRuntime, done: Result<(), Error>) -> Result<(), Failure> {
+    done.map_err(|error| failed(rt, b"standard output", error))
 }

@@ -11,12 +11,11 @@ use Rattle.table.specs.FirstLine.{FirstLine}
 use Rattle.pages.specs.declared.Sheet.{Sheet}
 use Rattle.embosser.specs.Chart.{other}
 use Rattle.embosser.specs.Good.{Good}
-use Rattle.embosser.specs.Filing.{number, place, written, wrote, Outcome, done, GivenBack, turned_bytes, filing}
+use Rattle.embosser.specs.Filing.{Filed, number, place, written, wrote, Outcome, done, GivenBack, turned_bytes, filing}
 use Rattle.embosser.specs.Promises.{Files}
 use Rattle.embosser.specs.Refusals.{Line}
 use Rattle.embosser.specs.declared.Kind.{Kind}
 use Rattle.embosser.specs.declared.Kind.TheVariants.{Layout, File}
-use Rattle.embosser.specs.declared.Filed.{Filed}
 use Rattle.embosser.proofs.Outcomes.{turned_length}
 use Rattle.embosser.proofs.Pages.{same_pages, turned_and_back}
 use Rattle.embosser.proofs.Refusals as Laws

@@ -14,16 +14,15 @@ use Rattle.pages.specs.Pages.{pages_of, bytes_of_pages}
 use Rattle.pages.specs.Volume.{sheet_right}
 use Rattle.pages.specs.declared.Sheet.{Sheet}
 use Rattle.pages.proofs.Sizes.{sizes_within}
-use Rattle.layout.specs.Emboss.{number, written}
+use Rattle.layout.specs.Emboss.{Answer, number, written}
 use Rattle.layout.specs.Promises.{Embossed}
 use Rattle.layout.specs.Relied.{wrote}
-use Rattle.layout.specs.declared.Answer.{Answer}
 use Rattle.layout.proofs.Relied.{call_bounded, call_lays_out, call_written}
 use Rattle.embosser.specs.Good.{bytes_as, Good}
 use Rattle.embosser.specs.Filing as Filing
 use Rattle.embosser.specs.Promises.{Files}
 use Rattle.embosser.specs.declared.Kind.TheVariants.{Layout, File}
-use Rattle.embosser.specs.declared.Filed.{Filed}
+use Rattle.embosser.specs.Filing.{Filed}
 use Rattle.embosser.proofs.Calls.{write_then_read}
 use Rattle.embosser.proofs.Refusals as Laws
 

@@ -2,7 +2,7 @@
 -- each kind with their places.
 use Prim.Native.Nat.{ℕ}
 use mathlib.Core.List.{List, [], ◌∷◌, ◌++◌, map}
-use mathlib.Core.Option.{none, some}
+use Rattle.std.specs.Prelude.{None, Some}
 use mathlib.Core.Path.{◌≡◌, refl}
 use lib.ListN.{length, drop, replicate}
 use Rattle.table.specs.Example.{table, ascii}
@@ -113,25 +113,25 @@ pub wrong_files :
     ∷ (line (ascii "AAAAAA A") ++ ff)
     ∷ (line (ascii "AAAAAAAA") ++ line (ascii "A B C DE") ++ ff)
     ∷ [])
-    ≡ some 1
-    ∷ some 1
-    ∷ some 1
-    ∷ some 8
-    ∷ some 7
-    ∷ some 2
-    ∷ some 0
-    ∷ some 3
-    ∷ some 1
-    ∷ some 4
-    ∷ some 2
-    ∷ some 4
-    ∷ some 5
-    ∷ some 5
-    ∷ some 4
-    ∷ none
-    ∷ none
-    ∷ none
-    ∷ none
+    ≡ Some 1
+    ∷ Some 1
+    ∷ Some 1
+    ∷ Some 8
+    ∷ Some 7
+    ∷ Some 2
+    ∷ Some 0
+    ∷ Some 3
+    ∷ Some 1
+    ∷ Some 4
+    ∷ Some 2
+    ∷ Some 4
+    ∷ Some 5
+    ∷ Some 5
+    ∷ Some 4
+    ∷ None
+    ∷ None
+    ∷ None
+    ∷ None
     ∷ []
 unfolding computing
 wrong_files = refl
@@ -145,11 +145,11 @@ pub wrong_layouts :
     ∷ (64 ∷ 64 ∷ 1 ∷ 64 ∷ 65 ∷ [])
     ∷ (1 ∷ 64 ∷ [])
     ∷ [])
-    ≡ some 1
-    ∷ some 2
-    ∷ some 0
-    ∷ some 2
-    ∷ some 2
+    ≡ Some 1
+    ∷ Some 2
+    ∷ Some 0
+    ∷ Some 2
+    ∷ Some 2
     ∷ []
 unfolding computing
 wrong_layouts = refl

@@ -5,7 +5,7 @@ use Prim.Native.Nat.{ℕ, suc, ◌+◌, ◌≤◌, ◌<◌}
 use mathlib.Core.Bool.{Bool, true, false, cond}
 use mathlib.Core.List.{List, [], ◌∷◌, ◌++◌, map, append_assoc, append-nil}
 use mathlib.Core.Logic.{◌↔◌}
-use mathlib.Core.Option.{Option, none, some}
+use Rattle.std.specs.Prelude.{Option, None, Some}
 use mathlib.Core.Path.{◌≡◌, refl, sym, ◌∙◌, ap, subst}
 use native.Mathlib.Decide.{dec_lt}
 use native.Mathlib.Numerals.{add-one}
@@ -23,8 +23,6 @@ use Rattle.embosser.specs.Good.{bytes_as, Good, Continues, WrongAt, at_byte, sto
 use Rattle.embosser.specs.declared.Kind.{Kind}
 use Rattle.embosser.specs.declared.Kind.TheVariants.{Layout, File}
 use Rattle.embosser.specs.declared.Spot.{Spot}
-use Rattle.embosser.specs.declared.Step.{Step}
-use Rattle.embosser.specs.declared.Step.TheVariants.{On, Wrong}
 use Rattle.embosser.proofs.Charts.{place_of_character, character_of_place}
 use Rattle.embosser.proofs.Steps.{steps_told, start_fits}
 use Rattle.embosser.proofs.Runs.{Runs, ended, further, runs_on, runs_apart, one_run, wrong_ends, run_marks, pages_run, Between-pages, run_made, run_fits, leads_on}
@@ -168,45 +166,45 @@ module _ (kind : Kind) (sheet : Sheet) where
 
   -- what the judging of the bytes from a spot and a place on found
   data Found (s : Spot) (at : ℕ) (bytes : List ℕ) : Option ℕ → Type 0 where
-    found_nothing : {t : Spot} → Walks s bytes t → Between-pages sheet t → Found s at bytes none
-    found_byte : (k : ℕ) {t : Spot} → k < length bytes → Walks s (take k bytes) t → stepped sheet t (stands_for kind (get_or bytes k 0)) ≡ Wrong
-        → Found s at bytes (some (at + k))
-    found_short : {t : Spot} → Walks s bytes t → (Between-pages sheet t → ⊥) → Found s at bytes (some (at + length bytes))
+    found_nothing : {t : Spot} → Walks s bytes t → Between-pages sheet t → Found s at bytes None
+    found_byte : (k : ℕ) {t : Spot} → k < length bytes → Walks s (take k bytes) t → stepped sheet t (stands_for kind (get_or bytes k 0)) ≡ None
+        → Found s at bytes (Some (at + k))
+    found_short : {t : Spot} → Walks s bytes t → (Between-pages sheet t → ⊥) → Found s at bytes (Some (at + length bytes))
 
-  wrong_here : (s : Spot) (at c : ℕ) (bytes : List ℕ) → stepped sheet s (stands_for kind c) ≡ Wrong → wrong_from kind sheet s at (c ∷ bytes) ≡ some at
+  wrong_here : (s : Spot) (at c : ℕ) (bytes : List ℕ) → stepped sheet s (stands_for kind c) ≡ None → wrong_from kind sheet s at (c ∷ bytes) ≡ Some at
   unfolding wrong_from
   wrong_here s at c bytes e = rw (e, wrong_from)
 
-  wrong_further : (s : Spot) (at c : ℕ) (bytes : List ℕ) (t : Spot) → stepped sheet s (stands_for kind c) ≡ On t
+  wrong_further : (s : Spot) (at c : ℕ) (bytes : List ℕ) (t : Spot) → stepped sheet s (stands_for kind c) ≡ Some t
       → wrong_from kind sheet s at (c ∷ bytes) ≡ wrong_from kind sheet t (suc at) bytes
   unfolding wrong_from
   wrong_further s at c bytes t e = rw (e, wrong_from)
 
-  one_further : {s t : Spot} {at c : ℕ} {bytes : List ℕ} {o : Option ℕ} → stepped sheet s (stands_for kind c) ≡ On t → Found t (suc at) bytes o → Found s at (c ∷ bytes) o
+  one_further : {s t : Spot} {at c : ℕ} {bytes : List ℕ} {o : Option ℕ} → stepped sheet s (stands_for kind c) ≡ Some t → Found t (suc at) bytes o → Found s at (c ∷ bytes) o
   one_further {s} {t} {c} e (found_nothing walks done) = found_nothing (further (steps_told sheet s (stands_for kind c) t e) walks) done
   one_further {s} {t} {at} {c} {bytes} e (found_byte k l walks wrong) =
-      subst (λ (n : ℕ). Found s at (c ∷ bytes) (some n)) (omega arith)
+      subst (λ (n : ℕ). Found s at (c ∷ bytes) (Some n)) (omega arith)
       (found_byte (suc k) (omega arith) (further (steps_told sheet s (stands_for kind c) t e) walks) wrong)
   one_further {s} {t} {at} {c} {bytes} e (found_short walks not_done) =
-      subst (λ (n : ℕ). Found s at (c ∷ bytes) (some n)) (omega arith) (found_short (further (steps_told sheet s (stands_for kind c) t e) walks) not_done)
+      subst (λ (n : ℕ). Found s at (c ∷ bytes) (Some n)) (omega arith) (found_short (further (steps_told sheet s (stands_for kind c) t e) walks) not_done)
 
   found_from : (s : Spot) (at : ℕ) (bytes : List ℕ) → Found s at bytes (wrong_from kind sheet s at bytes)
   unfolding wrong_from
   found_from s at [] = go (at_start s) refl
     where
-      go : (b : Bool) → at_start s ≡ b → Found s at [] (cond b none (some at))
+      go : (b : Bool) → at_start s ≡ b → Found s at [] (cond b None (Some at))
       go true e = found_nothing ended ((tells_start s).0 e)
-      go false e = subst (λ (n : ℕ). Found s at [] (some n)) (omega arith) (found_short ended ((fails_law (tells_start s)).0 e))
+      go false e = subst (λ (n : ℕ). Found s at [] (Some n)) (omega arith) (found_short ended ((fails_law (tells_start s)).0 e))
   found_from s at (c ∷ bytes) = go (stepped sheet s (stands_for kind c)) refl (λ t. found_from t (suc at) bytes)
     where
-      go : (step : Step) → stepped sheet s (stands_for kind c) ≡ step → ((t : Spot) → Found t (suc at) bytes (wrong_from kind sheet t (suc at) bytes))
+      go : (step : Option Spot) → stepped sheet s (stands_for kind c) ≡ step → ((t : Spot) → Found t (suc at) bytes (wrong_from kind sheet t (suc at) bytes))
           → Found s at (c ∷ bytes) (wrong_from kind sheet s at (c ∷ bytes))
-      go Wrong e later =
-          subst (Found s at (c ∷ bytes)) (ap some (omega arith) ∙ sym (wrong_here s at c bytes e)) (found_byte 0 (omega arith) ended e)
-      go (On t) e later = subst (Found s at (c ∷ bytes)) (sym (wrong_further s at c bytes t e)) (one_further e (later t))
+      go None e later =
+          subst (Found s at (c ∷ bytes)) (ap Some (omega arith) ∙ sym (wrong_here s at c bytes e)) (found_byte 0 (omega arith) ended e)
+      go (Some t) e later = subst (Found s at (c ∷ bytes)) (sym (wrong_further s at c bytes t e)) (one_further e (later t))
 
   -- a byte that is found wrong isn't passed
-  wrong_byte : (bytes : List ℕ) (k : ℕ) {t : Spot} → k < length bytes → Walks start (take k bytes) t → stepped sheet t (stands_for kind (get_or bytes k 0)) ≡ Wrong
+  wrong_byte : (bytes : List ℕ) (k : ℕ) {t : Spot} → k < length bytes → Walks start (take k bytes) t → stepped sheet t (stands_for kind (get_or bytes k 0)) ≡ None
       → Passed (take (k + 1) bytes) → ⊥
   wrong_byte bytes k {t} l walks wrong passed =
       let c : ℕ = stands_for kind (get_or bytes k 0) in
@@ -218,8 +216,8 @@ module _ (kind : Kind) (sheet : Sheet) where
 
   module _ (wide : 0 < sheet.width) (long : 0 < sheet.length) (bytes : List ℕ) where
     abbrev Says : Option ℕ → Type 0
-    Says none = Good kind sheet bytes
-    Says (some at) = WrongAt kind sheet bytes at
+    Says None = Good kind sheet bytes
+    Says (Some at) = WrongAt kind sheet bytes at
 
     says : {o : Option ℕ} → Found start 0 bytes o → Says o
     says (found_nothing walks done) = walked_good (record { end = _; walks = walks; between = done })
@@ -236,17 +234,17 @@ module _ (kind : Kind) (sheet : Sheet) where
     found_says = says (found_from start 0 bytes)
 
     -- nothing is found exactly where the bytes are good
-    pub good_exactly_when : (wrong_at kind sheet bytes ≡ none) ↔ Good kind sheet bytes
+    pub good_exactly_when : (wrong_at kind sheet bytes ≡ None) ↔ Good kind sheet bytes
     good_exactly_when = (λ e. subst Says e found_says, λ good. go good (wrong_at kind sheet bytes) refl found_says)
       where
-        go : Good kind sheet bytes → (o : Option ℕ) → wrong_at kind sheet bytes ≡ o → Says o → wrong_at kind sheet bytes ≡ none
-        go good none e h = e
-        go good (some at) e h = absurd (good_not_wrong good h)
+        go : Good kind sheet bytes → (o : Option ℕ) → wrong_at kind sheet bytes ≡ o → Says o → wrong_at kind sheet bytes ≡ None
+        go good None e h = e
+        go good (Some at) e h = absurd (good_not_wrong good h)
 
     -- and a place exactly where they are wrong there
-    pub wrong_exactly_when : (at : ℕ) → (wrong_at kind sheet bytes ≡ some at) ↔ WrongAt kind sheet bytes at
+    pub wrong_exactly_when : (at : ℕ) → (wrong_at kind sheet bytes ≡ Some at) ↔ WrongAt kind sheet bytes at
     wrong_exactly_when at = (λ e. subst Says e found_says, λ wrong. go wrong (wrong_at kind sheet bytes) refl found_says)
       where
-        go : WrongAt kind sheet bytes at → (o : Option ℕ) → wrong_at kind sheet bytes ≡ o → Says o → wrong_at kind sheet bytes ≡ some at
-        go wrong none e h = absurd (good_not_wrong h wrong)
-        go wrong (some q) e h = e ∙ ap some (one_place h wrong)
+        go : WrongAt kind sheet bytes at → (o : Option ℕ) → wrong_at kind sheet bytes ≡ o → Says o → wrong_at kind sheet bytes ≡ Some at
+        go wrong None e h = absurd (good_not_wrong h wrong)
+        go wrong (Some q) e h = e ∙ ap Some (one_place h wrong)

@@ -5,7 +5,7 @@ use Prim.Native.Nat.{ℕ, ◌≤◌, ◌<◌}
 use mathlib.Core.Bool.{Bool, true, false}
 use mathlib.Core.List.{List}
 use mathlib.Core.Logic.{◌↔◌}
-use mathlib.Core.Option.{Option, none, some}
+use Rattle.std.specs.Prelude.{Option, None, Some, Ok}
 use mathlib.Core.Path.{◌≡◌, refl, sym, ap, subst}
 use native.Mathlib.Decide.{dec_lt}
 use native.Mathlib.Omega.{arith}
@@ -16,7 +16,6 @@ use Rattle.table.specs.Answers.{refusal_number, refusal_place}
 use Rattle.table.specs.FirstLine.{FirstLine}
 use Rattle.table.specs.declared.Refusal.{Refusal}
 use Rattle.table.specs.declared.Refusal.TheVariants.{Size, Room, File as WrongFile}
-use Rattle.table.specs.declared.Verdict.TheVariants.{Accepted}
 use Rattle.table.proofs.FirstLine.{OneLine}
 use Rattle.table.proofs.FirstLine as First
 use Rattle.pages.specs.Volume.{sheet_right, sheet_verdict}
@@ -44,7 +43,7 @@ module _ (kind : Kind) (sheet : Sheet) (bytes out : List ℕ) where
     told_done : sheet_right sheet ≡ true → Good kind sheet bytes → outcome ≡ done out (turned_bytes kind bytes) → ((t n p : ℕ) → Holds t n p → ⊥) → Told
 
   module _ (right : sheet_right sheet ≡ true) where
-    accepted : sheet_verdict sheet ≡ Accepted
+    accepted : sheet_verdict sheet ≡ Ok tt
     accepted = sizes_accepted sheet right
 
     wide : 0 < sheet.width
@@ -53,7 +52,7 @@ module _ (kind : Kind) (sheet : Sheet) (bytes out : List ℕ) where
     long : 0 < sheet.length
     long = let l = (sizes_of_accepted sheet accepted).1.low in omega arith
 
-    told_wrong : (at : ℕ) → wrong_at kind sheet bytes ≡ some at → Told
+    told_wrong : (at : ℕ) → wrong_at kind sheet bytes ≡ Some at → Told
     told_wrong at e =
         told_refused (WrongFile at) (omega arith) (filing_wrong kind sheet bytes out accepted at e)
         (record { turn = 2; line = line_16 ((wrong_exactly_when kind sheet wide long bytes at).0 e); none_before = before })
@@ -63,7 +62,7 @@ module _ (kind : Kind) (sheet : Sheet) (bytes out : List ℕ) where
         before t n p l (line_16 x) = omega arith
         before t n p l (line_8 x) = omega arith
 
-    told_good : wrong_at kind sheet bytes ≡ none → Told
+    told_good : wrong_at kind sheet bytes ≡ None → Told
     told_good e = go (dec_lt (length out) (length bytes))
       where
         good : Good kind sheet bytes
@@ -89,8 +88,8 @@ module _ (kind : Kind) (sheet : Sheet) (bytes out : List ℕ) where
   told = sizes (sheet_right sheet) refl
     where
       judging : sheet_right sheet ≡ true → (o : Option ℕ) → wrong_at kind sheet bytes ≡ o → Told
-      judging right (some at) e = told_wrong right at e
-      judging right none e = told_good right e
+      judging right (Some at) e = told_wrong right at e
+      judging right None e = told_good right e
 
       before : (t n p : ℕ) → t < 1 → Holds t n p → ⊥
       before t n p l (line_5 x) = omega arith
@@ -160,7 +159,7 @@ module _ (kind : Kind) (sheet : Sheet) (bytes out : List ℕ) where
 
   -- and of all of these where there is room; where there isn't, 8 is the answer
   module _ (right : sheet_right sheet ≡ true) (good : Good kind sheet bytes) where
-    not_wrong : wrong_at kind sheet bytes ≡ none
+    not_wrong : wrong_at kind sheet bytes ≡ None
     not_wrong = (good_exactly_when kind sheet (wide right) (long right) bytes).1 good
 
     pub good_done : length bytes ≤ length out → outcome ≡ done out (turned_bytes kind bytes)

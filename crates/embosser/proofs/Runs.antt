@@ -20,7 +20,7 @@ use Rattle.pages.specs.declared.Sheet.{Sheet}
 use Rattle.pages.proofs.Volume.{bytes_of_lines_lem, nil_of_length}
 use Rattle.embosser.specs.Judging.{start, cells_from, after_cell, after_line, stepped}
 use Rattle.embosser.specs.declared.Spot.{Spot}
-use Rattle.embosser.specs.declared.Step.TheVariants.{Wrong}
+use Rattle.std.specs.Prelude.{None}
 use Rattle.embosser.proofs.Steps.{cells_from_bounds, Steps, cell, line_end, page_end, wrong_told, one_step, step_marks, Fit, step_fits}
 
 module _ (sheet : Sheet) where
@@ -52,7 +52,7 @@ module _ (sheet : Sheet) where
   only_step : {s t : Spot} {byte : ℕ} → Runs s (byte ∷ []) t → Steps sheet s byte t
   only_step (further step ended) = step
 
-  pub wrong_ends : {s t u : Spot} {xs : List ℕ} (byte : ℕ) → Runs s xs t → stepped sheet t byte ≡ Wrong → Runs s (xs ++ byte ∷ []) u → ⊥
+  pub wrong_ends : {s t u : Spot} {xs : List ℕ} (byte : ℕ) → Runs s xs t → stepped sheet t byte ≡ None → Runs s (xs ++ byte ∷ []) u → ⊥
   wrong_ends {u} {xs} byte run wrong more =
       let p = runs_apart xs more in
       wrong_told sheet wrong (subst (λ (x : Spot). Steps sheet x byte u) (one_run p.to run) (only_step p.on))

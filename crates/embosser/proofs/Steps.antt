@@ -4,7 +4,7 @@
 use Prim.Native.Nat.{ℕ, ◌+◌, ◌≤◌, ◌<◌}
 use mathlib.Core.Bool.{Bool, true, false, true≢false, false≢true, cond}
 use mathlib.Core.List.{List}
-use mathlib.Core.Option.{none, some}
+use Rattle.std.specs.Prelude.{None, Some}
 use mathlib.Core.Path.{◌≡◌, refl, sym, ◌∙◌, ap, subst}
 use native.Mathlib.Decide.{ℕ_discrete, dec_le}
 use native.Mathlib.Numerals.{add-one}
@@ -21,10 +21,8 @@ use Rattle.pages.specs.Numbers.{line_mark, page_mark}
 use Rattle.pages.specs.declared.Sheet.{Sheet}
 use Rattle.embosser.specs.Chart.{stands_for}
 use Rattle.embosser.specs.Judging.{start, at_start, has_room, cells_from, cell_fits, line_ends, page_ends, after_cell, after_line, onwards, stepped, wrong_from, wrong_at}
-use Rattle.embosser.specs.inside.Tables.{Small, Judgeable}
 use Rattle.embosser.specs.declared.Kind.{Kind}
 use Rattle.embosser.specs.declared.Spot.{Spot}
-use Rattle.embosser.specs.declared.Step.TheVariants.{On, Wrong}
 
 pub cells_from_bounds : (cell : ℕ) → Between 1 2 (cells_from cell)
 unfolding cells_from
@@ -49,14 +47,17 @@ module _ (sheet : Sheet) (s : Spot) where
   unfolding stepped is_cell
   stepped_page = refl
 
-  pub stepped_none : (byte : ℕ) → 65 < byte → stepped sheet s byte ≡ Wrong
+  pub stepped_none : (byte : ℕ) → 65 < byte → stepped sheet s byte ≡ None
   unfolding stepped is_cell
   stepped_none byte l = rw (lt-leb byte 63 (omega arith), ne_eqb byte 64 (λ e. omega arith), ne_eqb byte 65 (λ e. omega arith))
+
+-- each of them, and the cells that a line must hold, for a proof of a step of the code
+pub ruleset stepping = (cells_from_bounds, stepped_cell, stepped_line, stepped_page, stepped_none)
 
 -- ---- A step in words
 
 -- a step that goes on passed its test, and goes to the spot after it
-goes_on : (test : Bool) {s t : Spot} → onwards test s ≡ On t → (test ≡ true) × (s ≡ t)
+goes_on : (test : Bool) {s t : Spot} → onwards test s ≡ Some t → (test ≡ true) × (s ≡ t)
 goes_on true e = (refl, cc)
 goes_on false e = let z : ◌≡◌ {A = ℕ} 0 1 = cc in absurd (omega arith)
 
@@ -83,7 +84,7 @@ module _ (sheet : Sheet) where
   unfolding page_ends
   tells_page s = tells_and (tells_eq s.column 0) (tells_lt 0 s.line)
 
-  pub steps_told : (s : Spot) (byte : ℕ) (t : Spot) → stepped sheet s byte ≡ On t → Steps s byte t
+  pub steps_told : (s : Spot) (byte : ℕ) (t : Spot) → stepped sheet s byte ≡ Some t → Steps s byte t
   steps_told s byte t told = go (dec_le byte most_cell) (ℕ_discrete byte line_mark) (ℕ_discrete byte page_mark)
     where
       go : Dec (byte ≤ most_cell) → Dec (byte ≡ line_mark) → Dec (byte ≡ page_mark) → Steps s byte t
@@ -103,17 +104,17 @@ module _ (sheet : Sheet) where
           let wrong = stepped_none sheet s byte (omega arith) in
           let z : ◌≡◌ {A = ℕ} 0 1 = cc in absurd (omega arith)
 
-  passed : {test : Bool} (t : Spot) → test ≡ true → onwards test t ≡ On t
+  passed : {test : Bool} (t : Spot) → test ≡ true → onwards test t ≡ Some t
   passed t e = rw e
 
-  steps_is : {s : Spot} {byte : ℕ} {t : Spot} → Steps s byte t → stepped sheet s byte ≡ On t
+  steps_is : {s : Spot} {byte : ℕ} {t : Spot} → Steps s byte t → stepped sheet s byte ≡ Some t
   steps_is {s} {byte} (cell c l w) = stepped_cell sheet s byte c ∙ passed (after_cell s byte) ((tells_cell s byte).1 (l, w))
   steps_is {s} {byte} (line_end is l w) =
       ap (stepped sheet s) is ∙ stepped_line sheet s ∙ passed (after_line s) ((tells_line s).1 (l, λ h. true≢false (sym h ∙ w)))
   steps_is {s} {byte} (page_end is c l) = ap (stepped sheet s) is ∙ stepped_page sheet s ∙ passed start ((tells_page s).1 (c, l))
 
   -- no step leads further where the judging finds a wrong byte
-  pub wrong_told : {s t : Spot} {byte : ℕ} → stepped sheet s byte ≡ Wrong → Steps s byte t → ⊥
+  pub wrong_told : {s t : Spot} {byte : ℕ} → stepped sheet s byte ≡ None → Steps s byte t → ⊥
   wrong_told e step = let told = steps_is step in let z : ◌≡◌ {A = ℕ} 0 1 = cc in omega arith
 
   pub one_step : {s t u : Spot} {byte : ℕ} → Steps s byte t → Steps s byte u → t ≡ u
@@ -148,9 +149,6 @@ module _ (sheet : Sheet) where
   step_fits (line_end is room w) = record { line = omega arith; column = omega arith; blank = λ e. absurd (false≢true e); full = λ e. refl }
   step_fits (page_end is c l) = start_fits
 
-  pub fit_small : {s : Spot} → Judgeable sheet → Fit s → Small s
-  fit_small limits fit = let l = fit.line in let c = fit.column in record { column = omega arith; line = omega arith }
-
 -- ---- The walk
 
 module _ (kind : Kind) (sheet : Sheet) (bytes : List ℕ) where
@@ -163,21 +161,21 @@ module _ (kind : Kind) (sheet : Sheet) (bytes : List ℕ) where
   walk_starts = refl
 
   -- `byte` is the output byte that stands there
-  pub walk_on : (s t : Spot) (i byte : ℕ) → i < length bytes → byte ≡ stands_for kind (get_or bytes i 0) → stepped sheet s byte ≡ On t → Walked s i
+  pub walk_on : (s t : Spot) (i byte : ℕ) → i < length bytes → byte ≡ stands_for kind (get_or bytes i 0) → stepped sheet s byte ≡ Some t → Walked s i
       → Walked t (i + 1)
   unfolding wrong_from
   walk_on s t i byte there is on walked =
-      let went : stepped sheet s (stands_for kind (get_or bytes i 0)) ≡ On t = rw is at on in
+      let went : stepped sheet s (stands_for kind (get_or bytes i 0)) ≡ Some t = rw is at on in
       rw (add-one i) (rw (drop-cons bytes i 0 there, went, wrong_from) at walked)
 
-  pub walk_wrong : (s : Spot) (i byte : ℕ) → i < length bytes → byte ≡ stands_for kind (get_or bytes i 0) → stepped sheet s byte ≡ Wrong → Walked s i
-      → wrong_at kind sheet bytes ≡ some i
+  pub walk_wrong : (s : Spot) (i byte : ℕ) → i < length bytes → byte ≡ stands_for kind (get_or bytes i 0) → stepped sheet s byte ≡ None → Walked s i
+      → wrong_at kind sheet bytes ≡ Some i
   unfolding wrong_from
   walk_wrong s i byte there is wrong walked =
-      let stops : stepped sheet s (stands_for kind (get_or bytes i 0)) ≡ Wrong = rw is at wrong in
+      let stops : stepped sheet s (stands_for kind (get_or bytes i 0)) ≡ None = rw is at wrong in
       sym (rw (drop-cons bytes i 0 there, stops, wrong_from) at walked)
 
   -- no byte is left
-  pub walk_ends : (s : Spot) (i : ℕ) → length bytes ≤ i → Walked s i → wrong_at kind sheet bytes ≡ cond (at_start s) none (some i)
+  pub walk_ends : (s : Spot) (i : ℕ) → length bytes ≤ i → Walked s i → wrong_at kind sheet bytes ≡ cond (at_start s) None (Some i)
   unfolding wrong_from
   walk_ends s i over walked = sym (rw (drop_of_length-le bytes over) at walked)

@@ -1,7 +1,7 @@
 -- 'Embosser files', what a wrong file or layout is, byte by byte: where the judging stands on the page, one byte further, and the first byte at which no
 -- good one could continue, or the length where it merely stops short. specs/Good.antt has the same in words.
-use Rattle.std.specs.Prelude.{ℕ, suc, ◌+◌, Bool, false, cond, not, ◌&&◌, List, [], ◌∷◌, leb, ltb, eqb}
-use Rattle.std.proofs.Math.Option.{Option, none, some}
+use Rattle.std.specs.Prelude.{ℕ, suc, ◌+◌, Bool, false, cond, not, ◌&&◌, List, [], ◌∷◌, leb, ltb, eqb, Option, None, Some}
+use Rattle.std.specs.Bool.{then_some}
 use Rattle.table.specs.Numbers.{blank_cell}
 use Rattle.table.specs.Cells.{is_cell}
 use Rattle.pages.specs.Numbers.{line_mark, page_mark}
@@ -9,8 +9,6 @@ use Rattle.pages.specs.declared.Sheet.{Sheet}
 use Rattle.embosser.specs.Chart.{stands_for}
 use Rattle.embosser.specs.declared.Kind.{Kind}
 use Rattle.embosser.specs.declared.Spot.{Spot}
-use Rattle.embosser.specs.declared.Step.{Step}
-use Rattle.embosser.specs.declared.Step.TheVariants.{On, Wrong}
 
 -- A spot: `column` cells stand on the line, the last of them is blank where `blank` is true, and the page has `line` lines that have ended.
 
@@ -48,21 +46,21 @@ abbrev pub after_line : Spot → Spot
 after_line s = record { column = 0; blank = false; line = s.line + 1 }
 
 -- go on there where the test passes
-abbrev pub onwards : Bool → Spot → Step
-onwards test s = cond test (On s) Wrong
+abbrev pub onwards : Bool → Spot → Option Spot
+onwards test s = then_some test s
 
-unfoldable pub stepped : Sheet → Spot → ℕ → Step
+unfoldable pub stepped : Sheet → Spot → ℕ → Option Spot
 stepped sheet s byte =
     cond (is_cell byte) (onwards (cell_fits sheet s byte) (after_cell s byte))
     (cond (eqb byte line_mark) (onwards (line_ends sheet s) (after_line s))
-    (cond (eqb byte page_mark) (onwards (page_ends s) start) Wrong))
+    (cond (eqb byte page_mark) (onwards (page_ends s) start) None))
 
 -- ---- All bytes, from a spot and a place on
 
 unfoldable pub wrong_from : Kind → Sheet → Spot → ℕ → List ℕ → Option ℕ
-wrong_from kind sheet s at [] = cond (at_start s) none (some at)
+wrong_from kind sheet s at [] = cond (at_start s) None (Some at)
 wrong_from kind sheet s at (byte ∷ bytes) =
-    elim (stepped sheet s (stands_for kind byte)) [ Wrong ↦ some at | On t ↦ wrong_from kind sheet t (suc at) bytes ]
+    elim (stepped sheet s (stands_for kind byte)) [ None ↦ Some at | Some t ↦ wrong_from kind sheet t (suc at) bytes ]
 
 -- the place of what is wrong, if anything is
 unfoldable pub wrong_at : Kind → Sheet → List ℕ → Option ℕ

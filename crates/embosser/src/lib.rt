@@ -5,12 +5,8 @@
 
 #![tactic(auto)]
 
-mod answering;
-
-use table::Refusal;
-
 // The bytes that pages are written in: the output of `emboss`, or an embosser file.
-#[derive(Clone, Copy)]
+#[derive(Clone, Copy, Debug, PartialEq, Eq)]
 pub enum Kind {
     Layout,
     File,
@@ -18,30 +14,9 @@ pub enum Kind {
 
 // Where the judging stands: the cells of the line, whether the last of them is blank, and the lines
 // that have ended on the page.
-#[derive(Clone, Copy)]
+#[derive(Clone, Copy, Debug, PartialEq, Eq)]
 pub struct Spot {
     pub column: usize,
     pub blank: bool,
     pub line: usize,
-}
-
-// What a byte makes of a spot: the next one, or no good file or layout could go on so.
-#[derive(Clone, Copy)]
-pub enum Step {
-    On(Spot),
-    Wrong,
-}
-
-// What the judging finds: a wrong file or layout, and its place.
-#[derive(Clone, Copy)]
-pub enum Found {
-    At(usize),
-    Nothing,
-}
-
-// What writing or reading a file answers.
-#[derive(Clone, Copy)]
-pub enum Filed {
-    Done { written: usize },
-    Refused(Refusal),
 }

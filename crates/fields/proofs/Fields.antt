@@ -1,121 +1,82 @@
 -- Laws of the fields of a line: the bytes of a record that were written or were left as they were, and what each definition of a field comes to at each way
 -- that reading it can go.
 use Prim.Native.Nat.{ℕ, zero, suc, ◌+◌, ◌-◌, ◌/◌, ◌%◌, ◌≤◌, ◌<◌}
-use mathlib.Core.Bool.{Bool, true, false, false≢true, cond, ◌&&◌}
+use mathlib.Core.Bool.{Bool, true, false, false≢true, ◌&&◌}
 use mathlib.Core.List.{List, [], ◌∷◌, ◌++◌, append_assoc}
+use mathlib.Core.Logic.{◌⊎◌, inl, inr}
 use mathlib.Core.Path.{◌≡◌, refl, sym, ◌∙◌, ap}
 use native.Mathlib.Numerals.{add-one}
 use native.Mathlib.Omega.{arith}
 use lib.Dec.{eqb}
-use lib.ListN.{length, get_or, set, take, drop, replicate, length-drop, length-set, length-replicate, drop_of_length-le}
-use lib.Seq.{sets, sets-eq, length-take-le, take-append_seam, drop_at, take-nil, take-take, take-add, take-set-le, drop-set-lt, drop-drop, drop-cons}
+use lib.ListN.{length, length-append, get_or, set, take, drop, replicate, length-drop, drop_of_length-le, take-append-drop}
+use lib.Seq.{length-take-le, take-append_seam, drop-set-lt, drop-drop, drop-cons}
 use borrow.Author.Tests.{eq-eqb, ne_eqb}
 use Rattle.table.specs.Numbers.{most_length, padding, no_cell, no_context, earliest_year, latest_year, low_byte_room}
-use Rattle.table.specs.Sections.{bytes_from}
-use Rattle.table.proofs.Wrote.{same_more}
 use Rattle.form.specs.Numbers.{hyphen, colon, from_word, to_word, most_year}
-use Rattle.form.specs.Words.{got, wrong, after_gap, ends_word, whole, begins, is_word, starts_number, number, byte_number, mark_or, symbols_from, row, string, string_bytes}
-use Rattle.form.specs.Fields.{fields_of, size_of, sizes_of, number_bytes, classed, signs_from, signs, year, years, tail, read_field, read_fields}
-use Rattle.form.specs.inside.Steps.{value_read, ValueWithin, Modest}
-use Rattle.fields.specs.inside.Steps.{step_read, StepWithin, ByteValue, value_step, with_value}
-use Rattle.form.specs.declared.Draft.{Draft}
+use Rattle.form.specs.Words.{Read, got, wrong, after_gap, ends_word, whole, begins, is_word, starts_number, number, byte_number, mark_or, symbols_from, row, string, string_bytes}
+use Rattle.form.specs.Fields.{size_of, sizes_of, number_bytes, classed, signs_from, signs, year, years, tail, read_field, read_fields}
+use Rattle.std.specs.Prelude.{Ok, Err}
+use Rattle.fields.specs.inside.Cursors.{rest_at, Value, value_read, ValueWithin, Advance, advance_read, AdvanceWithin, byte_read}
+use Rattle.fields.specs.declared.cursor.Cursor.{Cursor}
+use mir.Syntax.{w16}
+use borrow.Rule.Slice.PartMut.{put_mid, post_of}
+use Rattle.std.specs.Int.{to_le_bytes}
+use Rattle.std.proofs.Common.{append-nil}
 use Rattle.form.specs.declared.Expected.{Expected}
 use Rattle.form.specs.declared.Expected.TheVariants as expected
 use Rattle.form.specs.declared.Field.{Field}
 use Rattle.form.specs.declared.Field.TheVariants.{Symbol, Row, Tail}
-use Rattle.form.specs.declared.Value.{Value}
-use Rattle.form.specs.declared.Value.TheVariants as value
-use Rattle.fields.specs.declared.Step.{Step}
-use Rattle.fields.specs.declared.Step.TheVariants as step
-use Rattle.form.specs.declared.Keyword.{Keyword}
-use Rattle.form.specs.declared.Keyword.TheVariants.{Dated, Classes, Variables, Letter, Entry, Context, Transition, Decision}
+
+-- ---- Cursors of one line
+
+pub rest_is : (c : Cursor) {at : ℕ} {line : List ℕ} → c.at ≡ at → c.line.now ≡ line → rest_at c ≡ drop at line
+rest_is c place same = rw (place, same) refl
+
+-- what is wrong further on in the line
+pub wrong_on : {here there : List ℕ} → there ≡ here → {e : Expected} {at : ℕ} {read : Read} → wrong e (drop at there) ≡ read → at ≤ length there
+    → (wrong e (drop at here) ≡ read) × (at ≤ length here)
+wrong_on same {e} {at} is within = (ap (λ (line : List ℕ). wrong e (drop at line)) (sym same) ∙ is, rw (← same) within)
+
+-- what is read further on in the line
+pub value_on : {here there : List ℕ} → there ≡ here → (most : ℕ) (value : Value) {read : Read} → value_read there value ≡ read → ValueWithin most there value
+    → (value_read here value ≡ read) × ValueWithin most here value
+value_on same most value is within = rw (← same) (is, within)
+
+pub advance_on : {here there : List ℕ} → there ≡ here → (bytes : List ℕ) (next : Advance) {read : Read} → advance_read there bytes next ≡ read → AdvanceWithin there next
+    → (advance_read here bytes next ≡ read) × AdvanceWithin here next
+advance_on same bytes next is within = rw (← same) (is, within)
+
+-- the place where the line goes on
+pub place_on : {line : List ℕ} (next : Cursor) → next.line.now ≡ line → {bytes : List ℕ} {read : Read} → got bytes (rest_at next) ≡ read
+    → (got bytes (drop next.at line) ≡ read) × (next.at ≤ length line)
+place_on next same is = rw (← same) (is, next.within)
 
 -- ---- Bytes of a record
 
-pub bytes_length : (l : List ℕ) (n k : ℕ) → n + k ≤ length l → length (bytes_from l n k) ≡ k
-unfolding bytes_from
-bytes_length l n k h = length-take-le k (drop n l) (rw length-drop (omega arith))
+pub no_bytes : (l : List ℕ) → length l ≡ 0 → l ≡ []
+no_bytes [] e = refl
+no_bytes (x ∷ xs) e = absurd (omega arith)
 
-pub bytes_joined : (l : List ℕ) (n a b : ℕ) → bytes_from l n (a + b) ≡ bytes_from l n a ++ bytes_from l (n + a) b
-unfolding bytes_from
-bytes_joined l n a b = take-add a b (drop n l) ∙ ap (λ (r : List ℕ). take a (drop n l) ++ take b r) (drop-drop a n l)
+pub one_written : (l : List ℕ) (a : ℕ) → length l ≡ 1 → set l 0 a ≡ a ∷ []
+one_written (x ∷ []) a e = refl
+one_written [] a e = absurd (omega arith)
+one_written (x ∷ y ∷ l) a e = absurd (omega arith)
 
-pub take_joined : (l : List ℕ) (n a : ℕ) → take (n + a) l ≡ take n l ++ bytes_from l n a
-unfolding bytes_from
-take_joined l n a = take-add n a l
+pub two_written : (l : List ℕ) (a b : ℕ) → length l ≡ 2 → set (set l 0 a) 1 b ≡ a ∷ b ∷ []
+two_written (x ∷ y ∷ []) a b e = refl
+two_written [] a b e = absurd (omega arith)
+two_written (x ∷ []) a b e = absurd (omega arith)
+two_written (x ∷ y ∷ z ∷ l) a b e = absurd (omega arith)
 
--- bytes that were written
-pub bytes_written : (l : List ℕ) (n : ℕ) (bytes : List ℕ) → n + length bytes ≤ length l → bytes_from (sets l n bytes) n (length bytes) ≡ bytes
-unfolding bytes_from
-bytes_written l n bytes h =
-    ap (λ (r : List ℕ). take (length bytes) (drop n r)) (sets-eq bytes l n h)
-    ∙ ap (λ (r : List ℕ). take (length bytes) (drop n r)) (append_assoc (take n l) bytes (drop (n + length bytes) l))
-    ∙ ap (λ (r : List ℕ). take (length bytes) r) (drop_at (take n l) (bytes ++ drop (n + length bytes) l) n (length-take-le n l (omega arith)))
-    ∙ take-append_seam bytes (drop (n + length bytes) l)
+pub take_two : (a b rest : List ℕ) (n m : ℕ) → length a ≡ n → length b ≡ m → take (n + m) (a ++ (b ++ rest)) ≡ a ++ b
+take_two a b rest n m at more =
+    let long : n + m ≡ length (a ++ b) = simp length-append (omega arith) in
+    rw (long, ← append_assoc a b rest) (take-append_seam (a ++ b) rest)
 
--- what stands before them is as it was
-pub before_written : (l : List ℕ) (n : ℕ) (bytes : List ℕ) (m : ℕ) → m ≤ n → take m (sets l n bytes) ≡ take m l
-before_written l n [] m h = refl
-before_written l n (b ∷ bytes) m h = before_written (set l n b) (suc n) bytes m (omega arith) ∙ take-set-le m l n b h
-
-bytes_of_take : (l : List ℕ) (n a : ℕ) → take a (drop n l) ≡ drop n (take (n + a) l)
-bytes_of_take l zero a = let e : a ≡ 0 + a = omega arith in ap (λ (k : ℕ). take k l) e
-bytes_of_take [] (suc n) a = take-nil a ∙ ap (λ (r : List ℕ). drop (suc n) r) (sym (take-nil (suc n + a)))
-bytes_of_take (x ∷ xs) (suc n) a =
-    let e : suc (n + a) ≡ suc n + a = omega arith in
-    bytes_of_take xs n a ∙ ap (λ (k : ℕ). drop (suc n) (take k (x ∷ xs))) e
-
-pub bytes_kept : (l m : List ℕ) (n a : ℕ) → take (n + a) l ≡ take (n + a) m → bytes_from l n a ≡ bytes_from m n a
-unfolding bytes_from
-bytes_kept l m n a e = bytes_of_take l n a ∙ ap (λ (r : List ℕ). drop n r) e ∙ sym (bytes_of_take m n a)
-
-pub take_less : (n a : ℕ) (l m : List ℕ) → take (n + a) l ≡ take (n + a) m → take n l ≡ take n m
-take_less n a l m e = sym (take-take n (n + a) l (omega arith)) ∙ ap (λ (r : List ℕ). take n r) e ∙ take-take n (n + a) m (omega arith)
-
--- and what stands after a byte that was written
-pub bytes_after : (l : List ℕ) (i v n k : ℕ) → i < n → bytes_from (set l i v) n k ≡ bytes_from l n k
-unfolding bytes_from
-bytes_after l i v n k h = ap (λ (r : List ℕ). take k r) (drop-set-lt n l i v h)
-
-two_written : (l : List ℕ) (n a b : ℕ) → set (set l n a) (n + 1) b ≡ sets l n (a ∷ b ∷ [])
-two_written l n a b = let e : n + 1 ≡ suc n = omega arith in ap (λ (k : ℕ). set (set l n a) k b) e
-
-four_written : (l : List ℕ) (n a b c d : ℕ) → set (set (set (set l n a) (n + 1) b) (n + 2) c) (n + 3) d ≡ sets l n (a ∷ b ∷ c ∷ d ∷ [])
-four_written l n a b c d =
-    let two : n + 2 ≡ suc (suc n) = omega arith in
-    let three : n + 3 ≡ suc (suc (suc n)) = omega arith in
-    ap (λ (r : List ℕ). set (set r (n + 2) c) (n + 3) d) (two_written l n a b)
-    ∙ ap (λ (k : ℕ). set (set (sets l n (a ∷ b ∷ [])) k c) (n + 3) d) two
-    ∙ ap (λ (k : ℕ). set (sets l n (a ∷ b ∷ c ∷ [])) k d) three
-
-pub two_read : (l : List ℕ) (n a b : ℕ) → n + 2 ≤ length l → bytes_from (set (set l n a) (n + 1) b) n 2 ≡ a ∷ b ∷ []
-two_read l n a b fits = ap (λ (r : List ℕ). bytes_from r n 2) (two_written l n a b) ∙ bytes_written l n (a ∷ b ∷ []) fits
-
-pub two_before : (l : List ℕ) (n a b : ℕ) → take n (set (set l n a) (n + 1) b) ≡ take n l
-two_before l n a b = ap (λ (r : List ℕ). take n r) (two_written l n a b) ∙ before_written l n (a ∷ b ∷ []) n (omega arith)
-
-pub four_read : (l : List ℕ) (n a b c d : ℕ) → n + 4 ≤ length l → bytes_from (set (set (set (set l n a) (n + 1) b) (n + 2) c) (n + 3) d) n 4 ≡ a ∷ b ∷ c ∷ d ∷ []
-four_read l n a b c d fits = ap (λ (r : List ℕ). bytes_from r n 4) (four_written l n a b c d) ∙ bytes_written l n (a ∷ b ∷ c ∷ d ∷ []) fits
-
-pub four_before : (l : List ℕ) (n a b c d : ℕ) → take n (set (set (set (set l n a) (n + 1) b) (n + 2) c) (n + 3) d) ≡ take n l
-four_before l n a b c d = ap (λ (r : List ℕ). take n r) (four_written l n a b c d) ∙ before_written l n (a ∷ b ∷ c ∷ d ∷ []) n (omega arith)
-
-pub four_length : (l : List ℕ) (n a b c d : ℕ) → length (set (set (set (set l n a) (n + 1) b) (n + 2) c) (n + 3) d) ≡ length l
-four_length l n a b c d = simp length-set
-
--- bytes that become 0, one by one
-pub none_cleared : (l : List ℕ) (from : ℕ) → l ≡ sets l from (replicate (from - from) padding)
-none_cleared l from = let e : from - from ≡ 0 = omega arith in rw e
-
-pub one_cleared : (l m : List ℕ) (from i : ℕ) → from ≤ i → m ≡ sets l from (replicate (i - from) padding)
-    → set m i padding ≡ sets l from (replicate (i + 1 - from) padding)
-one_cleared l m from i h e =
-    let at : i ≡ from + (i - from) = omega arith in
-    let more : i - from + 1 ≡ i + 1 - from = omega arith in
-    ap (λ (r : List ℕ). set r i padding) e
-    ∙ ap (λ (k : ℕ). set (sets l from (replicate (i - from) padding)) k padding) at
-    ∙ same_more l from (i - from) padding
-    ∙ ap (λ (k : ℕ). sets l from (replicate k padding)) more
+-- a year in two bytes, low byte first
+pub year_bytes : (n : ℕ) → n ≤ most_year → to_le_bytes w16 n ≡ number_bytes n
+unfolding number_bytes
+year_bytes n h = let high : n / 256 % 256 ≡ n / 256 = omega arith in rw high refl
 
 -- ---- Symbols
 
@@ -154,31 +115,13 @@ unfolding string whole
 string_wrong_lem rest read = rw read
 
 -- the bytes of a string: its length is put before its symbols, and 0 after them
-pub string_written : (l : List ℕ) (n many : ℕ) → many ≤ 10 → n + 11 ≤ length l
-    → bytes_from (sets (set l n many) (n + 1 + many) (replicate (n + 11 - (n + 1 + many)) padding)) n 11 ≡ string_bytes (bytes_from l (n + 1) many)
+pub string_written : (front symbols : List ℕ) (many : ℕ) → length front ≡ 1 → length symbols ≡ 10 → many ≤ 10
+    → set front 0 many ++ put_mid many (length symbols - many) symbols (replicate (10 - many) padding) ≡ string_bytes (take many symbols)
 unfolding string_bytes
-string_written l n many few fits =
-    let m : List ℕ = set l n many in
-    let zeros : List ℕ = replicate (10 - many) padding in
-    let k : ℕ = n + (1 + many) in
-    let all : List ℕ = sets m k zeros in
-    let at : n + 1 + many ≡ k = omega arith in
-    let left : n + 11 - (n + 1 + many) ≡ 10 - many = omega arith in
-    let parts : 11 ≡ (1 + many) + (10 - many) = omega arith in
-    let long : length (bytes_from l (n + 1) many) ≡ many = bytes_length l (n + 1) many (omega arith) in
-    let count : length zeros ≡ 10 - many = length-replicate (10 - many) padding in
-    let room : length m ≡ length l = length-set l n many in
-    let last : bytes_from all k (10 - many) ≡ zeros = rw count at (bytes_written m k zeros (omega arith)) in
-    let front : bytes_from all n (1 + many) ≡ many ∷ bytes_from l (n + 1) many =
-    bytes_kept all m n (1 + many) (before_written m k zeros k (omega arith))
-    ∙ bytes_joined m n 1 many
-    ∙ ap (λ (r : List ℕ). r ++ bytes_from m (n + 1) many) (bytes_written l n (many ∷ []) (omega arith))
-    ∙ ap (λ (r : List ℕ). many ∷ r) (bytes_after l n many (n + 1) many (omega arith)) in
-    rw (left, at, long)
-    (ap (λ (j : ℕ). bytes_from all n j) parts
-    ∙ bytes_joined all n (1 + many) (10 - many)
-    ∙ ap (λ (r : List ℕ). r ++ bytes_from all k (10 - many)) front
-    ∙ ap (λ (r : List ℕ). (many ∷ bytes_from l (n + 1) many) ++ r) last)
+string_written front symbols many one ten few =
+    let long : length (take many symbols) ≡ many = length-take-le many symbols (omega arith) in
+    let none : post_of many (length symbols - many) symbols ≡ [] = drop_of_length-le (drop many symbols) (simp length-drop (omega arith)) in
+    rw (one_written front many one, long, none, append-nil (replicate (10 - many) padding))
 
 -- ---- Words
 
@@ -264,15 +207,6 @@ module _ (k : ℕ) (sofar rest : List ℕ) (few : k < 4) where
   unfolding signs_from
   signs_stop starts = rw (next, starts, signs_from)
 
-tail_take : (k : ℕ) (xs : List ℕ) → drop 1 (take (suc k) xs) ≡ take k (drop 1 xs)
-tail_take k [] = sym (take-nil k)
-tail_take k (x ∷ xs) = refl
-
--- of bytes that are all alike, the first one aside
-pub rest_alike : (l : List ℕ) (n k v : ℕ) → bytes_from l n (suc k) ≡ replicate (suc k) v → bytes_from l (n + 1) k ≡ replicate k v
-unfolding bytes_from
-rest_alike l n k v e = ap (λ (r : List ℕ). take k r) (sym (drop-drop 1 n l)) ∙ sym (tail_take k (drop n l)) ∙ ap (λ (r : List ℕ). drop 1 r) e
-
 -- the bytes that were read, and 99 for each that is missing
 pub signs_end : (rest bytes : List ℕ) (k : ℕ) {later : List ℕ} → signs_from 4 [] rest ≡ got bytes later → length bytes ≡ k → signs rest ≡ got (bytes ++ replicate (4 - k) no_cell) later
 unfolding signs
@@ -286,27 +220,18 @@ pub signs_full : (k : ℕ) (sofar rest : List ℕ) → 4 ≤ k → signs_from (4
 unfolding signs_from
 signs_full k sofar rest h = let e : 4 - k ≡ 0 = omega arith in rw e
 
--- a record whose first `k` signs were read: all four bytes
-pub signs_stand : (l : List ℕ) (n k : ℕ) → k ≤ 4 → bytes_from l (n + k) (4 - k) ≡ replicate (4 - k) no_cell
-    → bytes_from l n 4 ≡ bytes_from l n k ++ replicate (4 - k) no_cell
-signs_stand l n k h e =
-    let parts : 4 ≡ k + (4 - k) = omega arith in
-    ap (λ (j : ℕ). bytes_from l n j) parts ∙ bytes_joined l n k (4 - k) ∙ ap (λ (r : List ℕ). bytes_from l n k ++ r) e
-
--- with none of them read
-pub all_signs : (l : List ℕ) (n : ℕ) → n + 4 ≤ length l
-    → bytes_from (set (set (set (set l n no_cell) (n + 1) no_cell) (n + 2) no_cell) (n + 3) no_cell) (n + 0) (4 - 0) ≡ replicate (4 - 0) no_cell
-all_signs l n fits = let e : n + 0 ≡ n = omega arith in rw e (four_read l n no_cell no_cell no_cell no_cell fits)
-
--- one more of them
-pub signs_left : (l : List ℕ) (n k v : ℕ) → k < 4 → bytes_from l (n + k) (4 - k) ≡ replicate (4 - k) no_cell
-    → bytes_from (set l (n + k) v) (n + (k + 1)) (4 - (k + 1)) ≡ replicate (4 - (k + 1)) no_cell
-signs_left l n k v h e =
+-- after one more of them
+pub signs_left : (l : List ℕ) (k v : ℕ) → k < 4 → drop k l ≡ replicate (4 - k) no_cell → drop (k + 1) (set l k v) ≡ replicate (4 - (k + 1)) no_cell
+signs_left l k v few left =
     let more : 4 - k ≡ suc (4 - (k + 1)) = omega arith in
-    let at : n + k + 1 ≡ n + (k + 1) = omega arith in
-    bytes_after l (n + k) v (n + (k + 1)) (4 - (k + 1)) (omega arith)
-    ∙ ap (λ (j : ℕ). bytes_from l j (4 - (k + 1))) (sym at)
-    ∙ rest_alike l (n + k) (4 - (k + 1)) no_cell (rw more at e)
+    drop-set-lt (k + 1) l k v (omega arith) ∙ sym (drop-drop 1 k l) ∙ ap (drop 1) left ∙ ap (λ (j : ℕ). drop 1 (replicate j no_cell)) more
+
+-- all four bytes
+pub signs_stand : (l : List ℕ) (k : ℕ) (rest : List ℕ) {later : List ℕ} → k ≤ 4 → length l ≡ 4 → drop k l ≡ replicate (4 - k) no_cell
+    → signs_from 4 [] rest ≡ got (take k l) later → got l later ≡ signs rest
+signs_stand l k rest {later} few four left read =
+    ap (λ (r : List ℕ). got r later) (sym (take-append-drop k l) ∙ ap (λ (r : List ℕ). take k l ++ r) left)
+    ∙ sym (signs_end rest (take k l) k read (length-take-le k l (omega arith)))
 
 -- ---- The tail
 
@@ -336,33 +261,26 @@ pub tail_least : (dated : Bool) → 4 ≤ size_of (Tail dated)
 tail_least true = omega arith
 tail_least false = omega arith
 
--- the years stand after the signs, which are as they were
-pub tail_joined : (rest line before rec : List ℕ) (n : ℕ) {later : List ℕ} (r : Step) → is_word colon rest ≡ true → signs (drop 1 rest) ≡ got (bytes_from before n 4) later
-    → step_read line (bytes_from rec (n + 4) 4) r ≡ years later → take (n + 4) rec ≡ take (n + 4) before → step_read line (bytes_from rec n 8) r ≡ tail true rest
-tail_joined rest line before rec n (step.On at) is read then kept =
-    ap (λ (bytes : List ℕ). got bytes (drop at line)) (bytes_joined rec n 4 4 ∙ ap (λ (bytes : List ℕ). bytes ++ bytes_from rec (n + 4) 4) (bytes_kept rec before n 4 kept))
-    ∙ sym (tail_dated rest is read (sym then))
-tail_joined rest line before rec n (step.Off e at) is read then kept = sym (tail_dated_off rest is read (sym then))
+-- the years stand after the signs
+pub tail_joined : (rest line written when : List ℕ) (r : Advance) {later : List ℕ} → is_word colon rest ≡ true → signs (drop 1 rest) ≡ got written later
+    → advance_read line when r ≡ years later → advance_read line (written ++ when) r ≡ tail true rest
+tail_joined rest line written when (Ok on) is read then = sym (tail_dated rest is read (sym then))
+tail_joined rest line written when (Err u) is read then = sym (tail_dated_off rest is read (sym then))
 
 -- ---- A value of one byte
 
-pub byte_value : (most : ℕ) (line : List ℕ) (v : Value) → most ≤ 255 → ValueWithin most line v → ByteValue v
-byte_value most line (value.Is v at) h within = omega arith
-byte_value most line (value.Not e at) h within = tt
-
-pub byte_field : (most : ℕ) (line rec : List ℕ) (n : ℕ) (v : Value) → n < length rec → ValueWithin most line v
-    → (step_read line (bytes_from (with_value rec n v) n 1) (value_step v) ≡ value_read line v) × StepWithin line (value_step v) × (take n (with_value rec n v) ≡ take n rec)
-byte_field most line rec n (value.Is v at) h within =
-    (ap (λ (bytes : List ℕ). got bytes (drop at line)) (bytes_written rec n (v ∷ []) (omega arith)), within.1, take-set-le n rec n v (omega arith))
-byte_field most line rec n (value.Not e at) h within = (refl, within, refl)
-
--- the string's length, as a shift may say it
-pub length_said : (rec : List ℕ) (n : ℕ) → (n ≡ 0 → ⊥) → get_or (take n rec) 0 0 ≡ get_or rec 0 0
-length_said rec zero h = absurd (h refl)
-length_said [] (suc n) h = refl
-length_said (x ∷ xs) (suc n) h = refl
+pub byte_field : (most : ℕ) (line before after : List ℕ) (v : Value) (r : Advance) → byte_read before v r after → ValueWithin most line v
+    → (advance_read line after r ≡ value_read line v) × AdvanceWithin line r
+byte_field most line before after (Ok v) r e within = rw (e.0, e.1) (refl, within.1)
+byte_field most line before after (Err u) r e within = rw e.0 (refl, within)
 
 -- ---- All fields
+
+-- a symbol is a row of one
+pub row_field : (f : Field) (sofar rest : List ℕ) → (f ≡ Symbol) ⊎ ((n : ℕ) × (f ≡ Row n)) → read_field f sofar rest ≡ row (size_of f) rest
+unfolding read_field
+row_field f sofar rest (inl e) = rw e
+row_field f sofar rest (inr (n, e)) = rw e
 
 pub fields_end : (fs : List Field) (j : ℕ) (sofar rest : List ℕ) → length fs ≤ j → read_fields (drop j fs) sofar rest ≡ got sofar rest
 unfolding read_fields
@@ -391,23 +309,3 @@ unfolding sizes_of
 sizes_within fs zero = omega arith
 sizes_within [] (suc j) = omega arith
 sizes_within (f ∷ fs) (suc j) = let e = sizes_within fs j in omega arith
-
-tail_size : (dated : Bool) → size_of (Tail dated) ≤ 8
-tail_size true = omega arith
-tail_size false = omega arith
-
--- the fields of every line fit a record
-pub fields_fit : (d : Draft) (k : Keyword) → Modest d → sizes_of (fields_of d k) ≤ 64
-unfolding fields_of sizes_of
-fields_fit d Dated m = omega arith
-fields_fit d Classes m = omega arith
-fields_fit d Variables m = omega arith
-fields_fit d Letter m = omega arith
-fields_fit d Entry m = let h = tail_size d.dated in omega arith
-fields_fit d Context m = omega arith
-fields_fit d Transition m = omega arith
-fields_fit d Decision m = go (eqb d.variables 0)
-  where
-    go : (t : Bool) → sizes_of (Row d.classes ∷ cond t [] (Row d.variables ∷ [])) ≤ 64
-    go true = omega arith
-    go false = omega arith

@@ -15,9 +15,8 @@ use Rattle.form.specs.declared.Keyword.{Keyword}
 use Rattle.form.proofs.Promises.{place_determined}
 use Rattle.form.proofs.Sizes.{record_small}
 use Rattle.fields.specs.Promises.{record_room, fields_read, Leaves, Fills}
-use Rattle.fields.specs.inside.Steps.{step_read, StepWithin}
-use Rattle.fields.specs.declared.Step.{Step}
-use Rattle.fields.specs.declared.Step.TheVariants.{On, Off}
+use Rattle.std.specs.Prelude.{Ok, Err}
+use Rattle.fields.specs.inside.Steps.{Step, step_read, StepWithin}
 
 -- a record is known by its first `n` bytes and the others
 by_parts : (n : ℕ) (x y : List ℕ) → take n x ≡ take n y → drop n x ≡ drop n y → x ≡ y
@@ -25,24 +24,25 @@ by_parts n x y front rest = sym (take-append-drop n x) ∙ ap (λ (r : List ℕ)
 
 filled_once : (n : ℕ) (line before : List ℕ) (read : Read) (a b : Step) (x y : List ℕ) → step_read line (take n x) a ≡ read → StepWithin line a → Leaves n before x a
     → step_read line (take n y) b ≡ read → StepWithin line b → Leaves n before y b → (a ≡ b) × (x ≡ y)
-filled_once n line before read (On i) (On j) x y p v l q w m =
+filled_once n line before read (Ok i) (Ok j) x y p v l q w m =
     let both = p ∙ sym q in
     let rest : drop i line ≡ drop j line = cc in
     let front : take n x ≡ take n y = cc in
-    (ap On (place_determined line v w rest), by_parts n x y front (l ∙ sym m))
-filled_once n line before read (On i) (Off e j) x y p v l q w m =
+    (ap Ok (place_determined line v w rest), by_parts n x y front (l ∙ sym m))
+filled_once n line before read (Ok i) (Err u) x y p v l q w m =
     let both = p ∙ sym q in
     let never : ◌≡◌ {A = ℕ} 0 1 = cc in
     absurd (omega arith)
-filled_once n line before read (Off e i) (On j) x y p v l q w m =
+filled_once n line before read (Err u) (Ok j) x y p v l q w m =
     let both = p ∙ sym q in
     let never : ◌≡◌ {A = ℕ} 0 1 = cc in
     absurd (omega arith)
-filled_once n line before read (Off e i) (Off f j) x y p v l q w m =
+filled_once n line before read (Err u) (Err t) x y p v l q w m =
     let both = p ∙ sym q in
-    let rest : drop i line ≡ drop j line = cc in
-    let place : i ≡ j = place_determined line v w rest in
-    (cc, l ∙ sym m)
+    let rest : drop u.at line ≡ drop t.at line = cc in
+    let place : u.at ≡ t.at = place_determined line v w rest in
+    let same : u.expected ≡ t.expected = cc in
+    (λ i. Err (record { expected = same i; at = place i }), l ∙ sym m)
 
 pub fill_determined : (d : Draft) (k : Keyword) (line : List ℕ) (at : ℕ) (before : List ℕ) {a b : Step} {x y : List ℕ} → Fills d k line at before a x
     → Fills d k line at before b y → (a ≡ b) × (x ≡ y)
@@ -64,12 +64,12 @@ module _ (d : Draft) (k : Keyword) (line : List ℕ) (at : ℕ) (before : List �
   read_there : read_fields (fields_of d k) [] (drop from line) ≡ fields_read d k (drop at line)
   read_there = ap (read_fields (fields_of d k) []) here ∙ sym (room_read d k (drop at line) room)
 
-  pub filled_off : (e : Expected) → wrong e (drop i line) ≡ read_fields (fields_of d k) [] (drop from line) → Fills d k line at before (Off e i) before
+  pub filled_off : (e : Expected) → wrong e (drop i line) ≡ read_fields (fields_of d k) [] (drop from line) → Fills d k line at before (Err (record { expected = e; at = i })) before
   filled_off e read = record { reads = read ∙ read_there; within = within; leaves = refl }
 
   pub filled_on : (own after : List ℕ) → take (sizes_of (fields_of d k)) after ≡ take (sizes_of (fields_of d k)) own
       → drop (sizes_of (fields_of d k)) after ≡ drop (sizes_of (fields_of d k)) before
-      → got (take (sizes_of (fields_of d k)) own) (drop i line) ≡ read_fields (fields_of d k) [] (drop from line) → Fills d k line at before (On i) after
+      → got (take (sizes_of (fields_of d k)) own) (drop i line) ≡ read_fields (fields_of d k) [] (drop from line) → Fills d k line at before (Ok i) after
   filled_on own after front rest read =
       record { reads = ap (λ (r : List ℕ). got r (drop i line)) front ∙ read ∙ read_there; within = within; leaves = rest }
 

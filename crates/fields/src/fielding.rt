@@ -1,244 +1,167 @@
-// How each field of a line is read into a record from byte `n` on. What a function writes of the record it writes
-// there, and leaves the bytes before as they were.
+// How each field of a line is read into its bytes of a record, and where the line then goes on.
 
-ghost use Rattle.std.specs.Prelude.{[], ◌≡◌, ℕ, ◌+◌, ◌-◌, ◌≤◌, ◌<◌, length, get_or, take, drop, replicate};
-ghost use Rattle.std.proofs.lemmas.List.Edits.{sets};
-ghost use Rattle.table.specs.Numbers.{padding};
-ghost use Rattle.table.specs.Sections.{bytes_from};
+ghost use Rattle.std.specs.Prelude.{[], ◌≡◌, ◌≤◌, ◌<◌, length, take};
 ghost use Rattle.form.specs.Words.{row as row_in, string as string_in};
 ghost use Rattle.form.specs.Fields.{fields_of, size_of, sizes_of, classed as classed_in, signs as signs_in, year as year_in, years as years_in, tail as tail_in, read_field, read_fields};
-ghost use Rattle.form.specs.declared.Field.TheVariants.{Symbol, Tail};
-ghost use Rattle.form.specs.inside.Steps.{value_read, ValueWithin};
-ghost use Rattle.fields.specs.inside.Steps.{step_read, StepWithin, ByteValue, value_step, with_value};
+ghost use Rattle.form.specs.declared.Field.TheVariants.{Tail};
+ghost use Rattle.fields.specs.inside.Cursors.{rest_at, ReadsValue, ReadsField, ByteValue, byte_read};
 
-use crate::wording::{mark_or, number, size, starts_number, symbols};
-use crate::{Run, Step};
-use form::{
-    Draft, Expected, Field, Keyword, Value, ends_word, field_at, field_count, gap_end, is_word,
-    size_of,
-};
+use crate::cursor::Cursor;
+use form::{Draft, Expected, Field, Keyword, Unlike, field_at, field_count, is_word, size_of};
 
-// A value of one byte goes into the record.
-fn one_byte(value: Value, rec: &mut [u8; 64], n: usize) -> Step
-    requires { (n < 64) × ByteValue value }
-    ensures { (result ≡ value_step value) × (rec.new ≡ with_value rec.old n value) }
+// A value of one byte goes into the byte.
+fn one_byte<'a>(
+    value: Result<(u16, Cursor<'a>), Unlike>,
+    bytes: &mut [u8],
+) -> Result<Cursor<'a>, Unlike>
+    requires { (length bytes.old ≡ 1) × ByteValue value }
+    ensures { byte_read bytes.old value.entry result bytes.new }
 {
-    match value {
-        Value::Is(v, at) => {
-            rec[n] = v as u8;
-            Step::On(at)
+    let (byte, next) = value?;
+    bytes[0] = byte as u8;
+    Ok(next)
+}
+
+impl<'a> Cursor<'a> {
+    // Just so many symbols as there are bytes, which are a word.
+    fn row(self, bytes: &mut [u8]) -> Result<Self, Unlike>
+        requires { length bytes.old < 65536 }
+        ensures { ReadsField self.entry (row_in (length bytes.old) (rest_at self.entry)) bytes.new result }
+    {
+        let (many, next) = self.symbols(bytes)?;
+        if many < bytes.len() {
+            return Err(next.unlike(Expected::Row(bytes.len() as u16)));
         }
-        Value::Not(e, at) => Step::Off(e, at),
+        next.whole_word()?;
+        Ok(next)
     }
-}
 
-// Just so many symbols, which are a word.
-fn row(line: &[u8], at: usize, count: usize, rec: &mut [u8; 64], n: usize) -> Step
-    requires { (at ≤ length line.now) × (n + count ≤ 64) × (count < 65536) }
-    ensures { (step_read line.now (bytes_from rec.new n count) result ≡ row_in count (drop at line.now)) × StepWithin line.now result × (take n rec.new ≡ take n rec.old) }
-{
-    match symbols(line, at, count, rec, n) {
-        Run::Not(e, i) => Step::Off(e, i),
-        Run::Of(many, i) => {
-            size(rec);
-            if many != count {
-                return Step::Off(Expected::Row(count as u16), i);
-            }
-            if !ends_word(line, i) {
-                return Step::Off(Expected::WordEnd, i);
-            }
-            Step::On(i)
+    // A string: its length, its symbols, and 0 up to ten.
+    fn string(self, bytes: &mut [u8]) -> Result<Self, Unlike>
+        requires { length bytes.old ≡ 11 }
+        ensures { ReadsField self.entry (string_in (rest_at self.entry)) bytes.new result }
+    {
+        let (length, string) = bytes.split_at_mut(1);
+        let (many, next) = self.symbols(string)?;
+        if many == 0 {
+            return Err(next.unlike(Expected::Symbol));
         }
+        next.whole_word()?;
+        length[0] = many as u8;
+        string[many..].fill(0);
+        Ok(next)
     }
-}
 
-// The bytes from `from` up to `to` become 0.
-fn clear(rec: &mut [u8; 64], from: usize, to: usize)
-    requires { (from ≤ to) × (to ≤ 64) }
-    ensures { rec.new ≡ sets rec.old from (replicate (to - from) padding) }
-{
-    let mut i = from;
-    while i < to {
-        rec[i] = 0;
-        i += 1;
+    // A class, and then a right context, which stands before it in the record.
+    fn classed(self, bytes: &mut [u8]) -> Result<Self, Unlike>
+        requires { length bytes.old ≡ 2 }
+        ensures { ReadsField self.entry (classed_in (rest_at self.entry)) bytes.new result }
+    {
+        let (class, end) = self.number(0, 255)?;
+        let (context, next) = end.after_gap().mark_or(b'-', 0)?;
+        bytes[0] = context as u8;
+        bytes[1] = class as u8;
+        Ok(next)
     }
-}
 
-// A string: its length, its symbols, and 0 up to ten.
-fn string(line: &[u8], at: usize, rec: &mut [u8; 64], n: usize) -> Step
-    requires { (at ≤ length line.now) × (n + 11 ≤ 64) }
-    ensures { (step_read line.now (bytes_from rec.new n 11) result ≡ string_in (drop at line.now)) × StepWithin line.now result × (take n rec.new ≡ take n rec.old) }
-{
-    match symbols(line, at, 10, rec, n + 1) {
-        Run::Not(e, i) => Step::Off(e, i),
-        Run::Of(many, i) => {
-            size(rec);
-            if many == 0 {
-                return Step::Off(Expected::Symbol, i);
+    // Up to four signs, and 99 for each that is missing.
+    fn signs(self, bytes: &mut [u8]) -> Result<Self, Unlike>
+        requires { length bytes.old ≡ 4 }
+        ensures { ReadsField self.entry (signs_in (rest_at self.entry)) bytes.new result }
+    {
+        bytes.fill(99);
+        let mut next = self;
+        for byte in bytes {
+            let start = next.after_gap();
+            if !start.starts_number() {
+                return Ok(next);
             }
-            if !ends_word(line, i) {
-                return Step::Off(Expected::WordEnd, i);
-            }
-            rec[n] = many as u8;
-            clear(rec, n + 1 + many, n + 11);
-            Step::On(i)
+            let (sign, end) = start.number(0, 255)?;
+            *byte = sign as u8;
+            next = end;
         }
+        Ok(next)
     }
-}
 
-// A class, and then a right context, which stands before it in the record.
-fn classed(line: &[u8], at: usize, rec: &mut [u8; 64], n: usize) -> Step
-    requires { (at ≤ length line.now) × (n + 2 ≤ 64) }
-    ensures { (step_read line.now (bytes_from rec.new n 2) result ≡ classed_in (drop at line.now)) × StepWithin line.now result × (take n rec.new ≡ take n rec.old) }
-{
-    size(rec);
-    match number(line, at, 0, 255) {
-        Value::Not(e, i) => Step::Off(e, i),
-        Value::Is(class, i) => {
-            let j = gap_end(line, i);
-            match mark_or(line, j, 45, 0) {
-                Value::Not(e, k) => Step::Off(e, k),
-                Value::Is(context, k) => {
-                    rec[n] = context as u8;
-                    rec[n + 1] = class as u8;
-                    Step::On(k)
-                }
-            }
+    // A year after its word, or what is meant where the word isn't there.
+    fn year(self, word: &[u8], unsaid: u16) -> Result<(u16, Self), Unlike>
+        ensures { ReadsValue 65535 self.entry (year_in word.now unsaid (rest_at self.entry)) result }
+    {
+        let start = self.after_gap();
+        if !is_word(start.line, start.at, word) {
+            return Ok((unsaid, self));
         }
+        start.to(start.at + word.len()).after_gap().number(0, 65535)
     }
-}
 
-// Up to four signs, and 99 for each that is missing.
-fn signs(line: &[u8], at: usize, rec: &mut [u8; 64], n: usize) -> Step
-    requires { (at ≤ length line.now) × (n + 4 ≤ 64) }
-    ensures { (step_read line.now (bytes_from rec.new n 4) result ≡ signs_in (drop at line.now)) × StepWithin line.now result × (take n rec.new ≡ take n rec.old) }
-{
-    size(rec);
-    rec[n] = 99;
-    rec[n + 1] = 99;
-    rec[n + 2] = 99;
-    rec[n + 3] = 99;
-    let mut i = at;
-    let mut many = 0;
-    while many < 4 {
-        let j = gap_end(line, i);
-        if !starts_number(line, j) {
-            return Step::On(i);
+    // The first year and the last.
+    fn years(self, bytes: &mut [u8]) -> Result<Self, Unlike>
+        requires { length bytes.old ≡ 4 }
+        ensures { ReadsField self.entry (years_in (rest_at self.entry)) bytes.new result }
+    {
+        let (first, end) = self.year(b"from", 0)?;
+        let (last, next) = end.year(b"to", 65535)?;
+        let (from, to) = bytes.split_at_mut(2);
+        from.copy_from_slice(&first.to_le_bytes());
+        to.copy_from_slice(&last.to_le_bytes());
+        Ok(next)
+    }
+
+    // The colon and the signs, and in a dated table the years.
+    fn tail(self, dated: bool, bytes: &mut [u8]) -> Result<Self, Unlike>
+        requires { length bytes.old ≡ size_of (Tail dated) }
+        ensures { ReadsField self.entry (tail_in dated (rest_at self.entry)) bytes.new result }
+    {
+        if !is_word(self.line, self.at, b":") {
+            return Err(self.unlike(Expected::Colon));
         }
-        match number(line, j, 0, 255) {
-            Value::Is(sign, next) => {
-                rec[n + many] = sign as u8;
-                i = next;
-                many += 1;
-            }
-            Value::Not(e, next) => {
-                return Step::Off(e, next);
-            }
-        }
+        let (written, when) = bytes.split_at_mut(4);
+        let next = self.to(self.at + 1).signs(written)?;
+        if dated { next.years(when) } else { Ok(next) }
     }
-    Step::On(i)
-}
 
-// A year after its word, or what is meant where the word isn't there.
-fn year(line: &[u8], at: usize, word: &[u8], unsaid: u16) -> Value
-    requires { at ≤ length line.now }
-    ensures { (value_read line.now result ≡ year_in word.now unsaid (drop at line.now)) × ValueWithin 65535 line.now result }
-{
-    let i = gap_end(line, at);
-    if is_word(line, i, word) {
-        let j = gap_end(line, i + word.len());
-        return number(line, j, 0, 65535);
-    }
-    Value::Is(unsaid, at)
-}
-
-// The first year and the last.
-fn years(line: &[u8], at: usize, rec: &mut [u8; 64], n: usize) -> Step
-    requires { (at ≤ length line.now) × (n + 4 ≤ 64) }
-    ensures { (step_read line.now (bytes_from rec.new n 4) result ≡ years_in (drop at line.now)) × StepWithin line.now result × (take n rec.new ≡ take n rec.old) }
-{
-    size(rec);
-    match year(line, at, b"from", 0) {
-        Value::Not(e, i) => Step::Off(e, i),
-        Value::Is(first, i) => match year(line, i, b"to", 65535) {
-            Value::Not(e, j) => Step::Off(e, j),
-            Value::Is(last, j) => {
-                rec[n] = (first % 256) as u8;
-                rec[n + 1] = (first / 256) as u8;
-                rec[n + 2] = (last % 256) as u8;
-                rec[n + 3] = (last / 256) as u8;
-                Step::On(j)
+    // The field from there on, after those that have given `sofar`. A shift may say that it is the
+    // string's length, which is the first of these bytes.
+    fn read_field(self, field: Field, sofar: &[u8], bytes: &mut [u8]) -> Result<Self, Unlike>
+        requires { (length bytes.old ≡ size_of field) × (size_of field < 65536) }
+        ensures { ReadsField self.entry (read_field field sofar.now (rest_at self.entry)) bytes.new result }
+    {
+        match field {
+            Field::Number(least, most) => {
+                one_byte(self.number(u16::from(least), u16::from(most)), bytes)
             }
-        },
-    }
-}
-
-// The colon and the signs, and in a dated table the years.
-fn tail(line: &[u8], at: usize, dated: bool, rec: &mut [u8; 64], n: usize) -> Step
-    requires { (at ≤ length line.now) × (n + size_of (Tail dated) ≤ 64) }
-    ensures { (step_read line.now (bytes_from rec.new n (size_of (Tail dated))) result ≡ tail_in dated (drop at line.now)) × StepWithin line.now result × (take n rec.new ≡ take n rec.old) }
-{
-    if !is_word(line, at, b":") {
-        return Step::Off(Expected::Colon, at);
-    }
-    match signs(line, at + 1, rec, n) {
-        Step::Off(e, i) => Step::Off(e, i),
-        Step::On(i) => {
-            if dated {
-                return years(line, i, rec, n + 4);
+            Field::Symbol | Field::Row(_) => self.row(bytes),
+            Field::String => self.string(bytes),
+            Field::Classed => self.classed(bytes),
+            Field::Shift => {
+                let length = sofar.first().copied().unwrap_or(0);
+                one_byte(self.mark_or(b'=', length), bytes)
             }
-            Step::On(i)
+            Field::Tail(dated) => self.tail(dated, bytes),
         }
     }
-}
 
-// The field from there on. A shift may say that it is the string's length, the record's first byte.
-fn read_field(field: Field, line: &[u8], at: usize, rec: &mut [u8; 64], n: usize) -> Step
-    requires { (at ≤ length line.now) × (n + size_of field ≤ 64) }
-    ensures { (step_read line.now (bytes_from rec.new n (size_of field)) result ≡ read_field field (take n rec.old) (drop at line.now)) × StepWithin line.now result × (take n rec.new ≡ take n rec.old) }
-{
-    size(rec);
-    match field {
-        Field::Number(least, most) => one_byte(number(line, at, least as u16, most as u16), rec, n),
-        Field::Symbol => row(line, at, 1, rec, n),
-        Field::Row(count) => row(line, at, count as usize, rec, n),
-        Field::String => string(line, at, rec, n),
-        Field::Classed => classed(line, at, rec, n),
-        Field::Shift => {
-            let length = if n == 0 { 0 } else { rec[0] };
-            one_byte(mark_or(line, at, 61, length), rec, n)
+    // All fields of a line, from the record's first byte on.
+    pub(crate) fn read_fields(
+        self,
+        draft: Draft,
+        keyword: Keyword,
+        rec: &mut [u8],
+    ) -> Result<Self, Unlike>
+        requires { (sizes_of (fields_of draft keyword) ≤ length rec.old) × (length rec.old ≡ 64) }
+        ensures { ReadsField self.entry (read_fields (fields_of draft keyword) [] (rest_at self.entry)) (take (sizes_of (fields_of draft keyword)) rec.new) result }
+    {
+        let mut next = self;
+        let mut n = 0;
+        for j in 0..field_count(draft, keyword) {
+            let field = field_at(draft, keyword, j);
+            let size = size_of(field);
+            let (sofar, rest) = rec.split_at_mut(n);
+            next = next
+                .after_gap()
+                .read_field(field, sofar, &mut rest[..size])?;
+            n += size;
         }
-        Field::Tail(dated) => tail(line, at, dated, rec, n),
+        Ok(next)
     }
-}
-
-// All fields of a line, from the record's first byte on.
-pub(crate) fn read_fields(
-    draft: Draft,
-    keyword: Keyword,
-    line: &[u8],
-    at: usize,
-    rec: &mut [u8; 64],
-) -> Step
-    requires { (at ≤ length line.now) × (sizes_of (fields_of draft keyword) ≤ 64) }
-    ensures { (step_read line.now (take (sizes_of (fields_of draft keyword)) rec.new) result ≡ read_fields (fields_of draft keyword) [] (drop at line.now)) × StepWithin line.now result }
-{
-    let count = field_count(draft, keyword);
-    let mut i = at;
-    let mut n = 0;
-    let mut j = 0;
-    while j < count {
-        let field = field_at(draft, keyword, j);
-        match read_field(field, line, gap_end(line, i), rec, n) {
-            Step::On(next) => {
-                i = next;
-                n += size_of(field);
-                j += 1;
-            }
-            Step::Off(e, next) => {
-                return Step::Off(e, next);
-            }
-        }
-    }
-    Step::On(i)
 }

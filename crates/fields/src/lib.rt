@@ -3,23 +3,9 @@
 
 #![tactic(auto)]
 
+mod cursor;
 mod fielding;
 mod filling;
 mod wording;
 
 pub use filling::fill;
-use form::Expected;
-
-// So many symbols, and where the line goes on.
-#[derive(Clone, Copy)]
-enum Run {
-    Of(usize, usize),
-    Not(Expected, usize),
-}
-
-// Where the line goes on after a field.
-#[derive(Clone, Copy)]
-pub enum Step {
-    On(usize),
-    Off(Expected, usize),
-}

@@ -1,113 +1,104 @@
 // The words that fields are made of: numbers, marks and runs of symbols, read from a place of the line
 // on.
 
-ghost use Rattle.std.specs.Prelude.{◌≡◌, ℕ, ◌+◌, ◌≤◌, length, take, drop, []};
-ghost use Rattle.form.specs.Words.{is_digit, starts_number, digits_from, number as number_in, mark_or, symbols_from};
-ghost use Rattle.form.specs.inside.Steps.{value_read, ValueWithin};
-ghost use Rattle.fields.specs.inside.Steps.{run_read, RunWithin};
+ghost use Rattle.std.specs.Prelude.{◌≡◌, length, []};
+ghost use Rattle.form.specs.Words.{after_gap, starts_number, digits_from, number as number_in, mark_or, symbols_from};
+ghost use Rattle.fields.specs.inside.Cursors.{rest_at, ReadsValue, WordEnded, ReadsRun};
 
-use crate::Run;
-use form::{Expected, Value, ends_word, symbol};
+use crate::cursor::Cursor;
+use form::{Expected, Unlike, ends_word, gap_end, symbol};
 
-// Whether a number starts there.
-pub(crate) fn starts_number(line: &[u8], at: usize) -> bool
-    ensures { result ≡ starts_number (drop at line.now) }
-{
-    if at < line.len() {
-        let c = line[at];
-        return (48 <= c) & (c <= 57);
+impl<'a> Cursor<'a> {
+    // The place after the gap.
+    pub(crate) fn after_gap(self) -> Self
+        ensures rest { rest_at result ≡ after_gap (rest_at self.entry) }
+        ensures line { result.line.now ≡ self.entry.line.now }
+    {
+        self.to(gap_end(self.line, self.at))
     }
-    false
-}
 
-// The digits from there on, as a number that is at most `most`.
-fn digits(line: &[u8], at: usize, least: u16, most: u16) -> Value
-    requires { at ≤ length line.now }
-    ensures { (value_read line.now result ≡ digits_from least most 0 (drop at line.now)) × ValueWithin most line.now result }
-{
-    let mut n: u16 = 0;
-    let mut i = at;
-    while i < line.len() {
-        let c = line[i];
-        if !((48 <= c) & (c <= 57)) {
-            return Value::Is(n, i);
-        }
-        let m = 10 * (n as u32) + ((c - 48) as u32);
-        if (most as u32) < m {
-            return Value::Not(Expected::Number(least, most), i);
-        }
-        n = m as u16;
-        i += 1;
+    // Whether a number starts there.
+    #[tactic(auto, unfolding(form::specs::Words::starts_number, form::specs::Words::is_digit))]
+    pub(crate) fn starts_number(self) -> bool
+        ensures { result ≡ starts_number (rest_at self.entry) }
+    {
+        self.line.get(self.at).is_some_and(|c| c.is_ascii_digit())
     }
-    Value::Is(n, i)
-}
 
-// A number from `least` to `most`, which is a whole word.
-pub(crate) fn number(line: &[u8], at: usize, least: u16, most: u16) -> Value
-    requires { at ≤ length line.now }
-    ensures { (value_read line.now result ≡ number_in least most (drop at line.now)) × ValueWithin most line.now result }
-{
-    if !starts_number(line, at) {
-        return Value::Not(Expected::Number(least, most), at);
-    }
-    let read = digits(line, at, least, most);
-    let Value::Is(n, i) = read else {
-        return read;
-    };
-    if n < least {
-        return Value::Not(Expected::Number(least, most), i);
-    }
-    if !ends_word(line, i) {
-        return Value::Not(Expected::WordEnd, i);
-    }
-    read
-}
-
-// The mark, which stands for the value, or a number of a byte.
-pub(crate) fn mark_or(line: &[u8], at: usize, mark: u8, value: u8) -> Value
-    requires { at ≤ length line.now }
-    ensures { (value_read line.now result ≡ mark_or mark value (drop at line.now)) × ValueWithin 255 line.now result }
-{
-    if at < line.len() {
-        if line[at] == mark {
-            if !ends_word(line, at + 1) {
-                return Value::Not(Expected::WordEnd, at + 1);
+    // The digits from there on, as a number that is at most `most`, and where the line goes on.
+    fn digits(self, least: u16, most: u16) -> Result<(u16, Self), Unlike>
+        ensures { ReadsValue most self.entry (digits_from least most 0 (rest_at self.entry)) result }
+    {
+        let line = self.line;
+        let mut n: u16 = 0;
+        for i in self.at..line.len() {
+            let c = line[i];
+            if !c.is_ascii_digit() {
+                return Ok((n, self.to(i)));
             }
-            return Value::Is(value as u16, at + 1);
+            let m = 10 * u32::from(n) + u32::from(c - b'0');
+            if u32::from(most) < m {
+                return Err(self.to(i).unlike(Expected::Number(least, most)));
+            }
+            n = m as u16;
+        }
+        Ok((n, self.to(line.len())))
+    }
+
+    // A number from `least` to `most`, which is a whole word.
+    pub(crate) fn number(self, least: u16, most: u16) -> Result<(u16, Self), Unlike>
+        ensures { ReadsValue most self.entry (number_in least most (rest_at self.entry)) result }
+    {
+        if !self.starts_number() {
+            return Err(self.unlike(Expected::Number(least, most)));
+        }
+        let (n, next) = self.digits(least, most)?;
+        if n < least {
+            return Err(next.unlike(Expected::Number(least, most)));
+        }
+        next.whole_word()?;
+        Ok((n, next))
+    }
+
+    // The mark, which stands for the value, or a number of a byte.
+    pub(crate) fn mark_or(self, mark: u8, value: u8) -> Result<(u16, Self), Unlike>
+        ensures { ReadsValue 255 self.entry (mark_or mark value (rest_at self.entry)) result }
+    {
+        match self.line.get(self.at) {
+            Some(&c) if c == mark => {
+                let next = self.to(self.at + 1);
+                next.whole_word()?;
+                Ok((u16::from(value), next))
+            }
+            _ => self.number(0, 255),
         }
     }
-    number(line, at, 0, 255)
-}
 
-// How many bytes there are: of a record, 64.
-pub(crate) fn size(bytes: &[u8]) -> usize
-    ensures { result ≡ length bytes.now }
-{
-    bytes.len()
-}
-
-// At most so many symbols, to the end of the word, into the record from byte `n` on.
-pub(crate) fn symbols(line: &[u8], at: usize, most: usize, rec: &mut [u8; 64], n: usize) -> Run
-    requires { (at ≤ length line.now) × (n + most ≤ 64) }
-    ensures { (run_read line.now rec.new n result ≡ symbols_from most [] (drop at line.now)) × RunWithin most line.now result × (take n rec.new ≡ take n rec.old) }
-{
-    size(rec);
-    let mut i = at;
-    let mut many = 0;
-    while many < most {
-        if ends_word(line, i) {
-            return Run::Of(many, i);
-        }
-        match symbol(line, i) {
-            Value::Is(c, next) => {
-                rec[n + many] = c as u8;
-                i = next;
-                many += 1;
-            }
-            Value::Not(e, next) => {
-                return Run::Not(e, next);
-            }
+    // That a word ends there.
+    pub(crate) fn whole_word(self) -> Result<(), Unlike>
+        ensures { WordEnded self.entry result }
+    {
+        if ends_word(self.line, self.at) {
+            Ok(())
+        } else {
+            Err(self.unlike(Expected::WordEnd))
         }
     }
-    Run::Of(many, i)
+
+    // At most so many symbols, to the end of the word, into the bytes: how many they are, and where
+    // the line goes on.
+    pub(crate) fn symbols(self, bytes: &mut [u8]) -> Result<(usize, Self), Unlike>
+        ensures { ReadsRun (length bytes.old) self.entry (symbols_from (length bytes.old) [] (rest_at self.entry)) bytes.new result }
+    {
+        let mut next = self;
+        for (many, byte) in bytes.iter_mut().enumerate() {
+            if ends_word(next.line, next.at) {
+                return Ok((many, next));
+            }
+            let (c, at) = symbol(next.line, next.at)?;
+            *byte = c as u8;
+            next = next.to(at);
+        }
+        Ok((bytes.len(), next))
+    }
 }

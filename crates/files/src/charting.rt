@@ -1,53 +1,39 @@
-// The chart, and the tables of 256 bytes that a call makes before its loops: from each output byte
-// to its character, back, or to itself.
+// The chart, and the tables of 256 bytes that a call makes before its loops: from the bytes of one
+// kind to what they stand for, or to the bytes of the other.
 
-ghost use Rattle.std.specs.Prelude.{◌≡◌, ℕ, ◌<◌};
-ghost use Rattle.embosser.specs.Chart.{character_of, stands_for, turned};
+ghost use Rattle.std.specs.Prelude.{◌≡◌, ℕ, ◌<◌, ◌≤◌, slice_index};
+ghost use Rattle.embosser.specs.Chart.{written_as, stands_for, turned};
 ghost use Rattle.embosser.specs.inside.Tables.{Holds};
-ghost use Rattle.embosser.specs.declared.Kind.TheVariants.{Layout, File};
+ghost use Rattle.embosser.specs.declared.Kind.TheVariants.{Layout};
 
 use embosser::Kind;
 
-// The public North American braille ASCII chart: the character of each cell.
-const CHART: [u8; 64] = *b" A1B'K2L@CIF/MSP\"E3H9O6R^DJG>NTQ,*5<-U8V.%[$+X!&;:4\\0Z7(_?W]#Y)=";
+// The characters of the output bytes: of each cell by the public North American braille ASCII chart,
+// then line feed for 64 and form feed for 65.
+const CHARACTERS: [u8; 66] =
+    *b" A1B'K2L@CIF/MSP\"E3H9O6R^DJG>NTQ,*5<-U8V.%[$+X!&;:4\\0Z7(_?W]#Y)=\n\x0c";
 
-// The character of an output byte: of a cell by the chart, a line feed for 64, a form feed for 65.
-fn character(byte: u8) -> u8
+// An output byte as a byte of this kind.
+#[tactic(auto, unfolding(embosser::specs::Chart::character_of, embosser::specs::Chart::characters))]
+fn written_as(kind: Kind, byte: u8) -> u8
     requires { byte < 66 }
-    ensures { result ≡ character_of byte }
+    ensures { result ≡ written_as kind byte }
 {
-    if byte == 64 {
-        return 10;
+    match kind {
+        Kind::Layout => byte,
+        Kind::File => CHARACTERS[usize::from(byte)],
     }
-    if byte == 65 {
-        return 12;
-    }
-    CHART[byte as usize]
 }
 
-// From each output byte to its character.
-fn to_characters() -> [u8; 256]
-    ensures { Holds (turned Layout) result }
+// From the bytes of one kind to those of another, and to `nothing` where a byte stands for none.
+fn table_between(kind: Kind, to: Kind, nothing: u8) -> [u8; 256]
+    ensures standing { (b : ℕ) → b < 256 → stands_for kind b < 66 → slice_index result b ≡ written_as to (stands_for kind b) }
+    ensures others { (b : ℕ) → b < 256 → 66 ≤ stands_for kind b → slice_index result b ≡ nothing }
 {
-    let mut table = [0u8; 256];
-    let mut byte: u8 = 0;
-    while byte < 66 {
-        table[byte as usize] = character(byte);
-        byte += 1;
-    }
-    table
-}
-
-// From each character to its output byte, and 66 where it is the character of none.
-fn from_characters() -> [u8; 256]
-    ensures { Holds (stands_for File) result }
-{
-    let mut table = [66u8; 256];
-    let mut byte: u8 = 0;
-    while byte < 66 {
-        let c = character(byte) as usize;
-        table[c] = byte;
-        byte += 1;
+    let mut table = [nothing; 256];
+    for byte in 0..66 {
+        let c = written_as(kind, byte);
+        table[usize::from(c)] = written_as(to, byte);
     }
     table
 }
@@ -56,22 +42,22 @@ fn from_characters() -> [u8; 256]
 fn unchanged() -> [u8; 256]
     ensures { Holds (stands_for Layout) result }
 {
-    let mut table = [0u8; 256];
-    let mut i = 0;
-    while i < 256 {
+    let mut table = [0; 256];
+    // Kept: `as`, proved to lose nothing, since `try_from` would have an error that never comes.
+    for i in 0..256 {
         table[i] = i as u8;
-        i += 1;
     }
     table
 }
 
-// The output byte that each byte of this kind stands for, and more than 65 where it stands for none.
+// The output byte that each byte of this kind stands for, and more than 65 where it stands for none:
+// for a file, the byte that it is turned to.
 pub(crate) fn stands_for(kind: Kind) -> [u8; 256]
     ensures { Holds (stands_for kind) result }
 {
     match kind {
         Kind::Layout => unchanged(),
-        Kind::File => from_characters(),
+        Kind::File => turned_by(Kind::File),
     }
 }
 
@@ -80,7 +66,7 @@ pub(crate) fn turned_by(kind: Kind) -> [u8; 256]
     ensures { Holds (turned kind) result }
 {
     match kind {
-        Kind::Layout => to_characters(),
-        Kind::File => from_characters(),
+        Kind::Layout => table_between(Kind::Layout, Kind::File, 0),
+        Kind::File => table_between(Kind::File, Kind::Layout, 66),
     }
 }

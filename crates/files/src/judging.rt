@@ -2,93 +2,67 @@
 // could continue.
 
 ghost use Rattle.std.specs.Prelude.{◌≡◌, ◌<◌};
-ghost use Rattle.embosser.specs.Judging.{cells_from, onwards as goes_on, stepped, wrong_at};
-ghost use Rattle.embosser.specs.inside.Tables.{Small, Judgeable, found_at};
+ghost use Rattle.embosser.specs.Judging.{start, cells_from, stepped, wrong_at};
+ghost use Rattle.embosser.specs.inside.Tables.{Small, Judgeable};
 
 use crate::charting::stands_for;
-use embosser::{Found, Kind, Spot, Step};
+use embosser::{Kind, Spot};
 use pages::Sheet;
 
+// Between two pages.
+const START: Spot = Spot {
+    column: 0,
+    blank: false,
+    line: 0,
+};
+
 // The cells that a line must hold from this one on.
+#[tactic(auto, unfolding(embosser::specs::Judging::cells_from))]
 fn cells_from(cell: u8) -> usize
     ensures { result ≡ cells_from cell }
 {
-    if cell == 0 {
-        return 2;
-    }
-    1
+    if cell == 0 { 2 } else { 1 }
 }
 
-// On to the next spot where the test passes.
-fn onwards(passes: bool, next: Spot) -> Step
-    ensures { result ≡ goes_on passes next }
-{
-    if passes {
-        return Step::On(next);
-    }
-    Step::Wrong
-}
-
-// One output byte further: a cell, the line's end or the page's.
-fn step(sheet: Sheet, spot: Spot, byte: u8) -> Step
+// One output byte further, a cell, the line's end or the page's: the next spot, where its test
+// passes.
+#[tactic(auto, using(embosser::proofs::Steps::stepping), unfolding(embosser::specs::inside::Computing::stepping_tests))]
+fn step(sheet: Sheet, spot: Spot, byte: u8) -> Option<Spot>
     requires { Small spot }
     ensures { result ≡ stepped sheet spot byte }
 {
     let room = spot.line < sheet.length;
-    if byte <= 63 {
-        return onwards(
-            room & (spot.column + cells_from(byte) <= sheet.width),
-            Spot {
-                column: spot.column + 1,
-                blank: byte == 0,
-                line: spot.line,
-            },
-        );
+    // Kept: a byte and no enum of cells and ends, since making one would be this match once more.
+    match byte {
+        0..=63 => (room & (spot.column + cells_from(byte) <= sheet.width)).then_some(Spot {
+            column: spot.column + 1,
+            blank: byte == 0,
+            ..spot
+        }),
+        64 => (room & !spot.blank).then_some(Spot {
+            line: spot.line + 1,
+            ..START
+        }),
+        65 => ((spot.column == 0) & (0 < spot.line)).then_some(START),
+        _ => None,
     }
-    if byte == 64 {
-        return onwards(
-            room & !spot.blank,
-            Spot {
-                column: 0,
-                blank: false,
-                line: spot.line + 1,
-            },
-        );
-    }
-    if byte == 65 {
-        return onwards(
-            (spot.column == 0) & (0 < spot.line),
-            Spot {
-                column: 0,
-                blank: false,
-                line: 0,
-            },
-        );
-    }
-    Step::Wrong
 }
 
 // The place of what is wrong with these bytes, on a sheet within the limits.
-pub(crate) fn first_wrong(kind: Kind, sheet: Sheet, bytes: &[u8]) -> Found
+pub(crate) fn first_wrong(kind: Kind, sheet: Sheet, bytes: &[u8]) -> Option<usize>
     requires { Judgeable sheet }
-    ensures { found_at result ≡ wrong_at kind sheet bytes.now }
+    ensures { result ≡ wrong_at kind sheet bytes.now }
 {
     let table = stands_for(kind);
-    let mut spot = Spot {
-        column: 0,
-        blank: false,
-        line: 0,
-    };
-    let mut i = 0;
-    while i < bytes.len() {
-        let Step::On(next) = step(sheet, spot, table[bytes[i] as usize]) else {
-            return Found::At(i);
+    let mut spot = START;
+    for (i, &byte) in bytes.iter().enumerate() {
+        let Some(next) = step(sheet, spot, table[usize::from(byte)]) else {
+            return Some(i);
         };
         spot = next;
-        i += 1;
     }
     if (spot.column == 0) & (spot.line == 0) {
-        return Found::Nothing;
+        return None;
     }
-    Found::At(i)
+    Some(bytes.len())
 }

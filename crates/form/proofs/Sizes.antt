@@ -1,5 +1,5 @@
 -- How large a draft's records and numbers are, within the limits of the frame.
-use Prim.Native.Nat.{ℕ, ◌+◌, ◌≤◌}
+use Prim.Native.Nat.{◌+◌, ◌≤◌}
 use mathlib.Core.Bool.{Bool, true, false, cond}
 use mathlib.Core.List.{[], ◌∷◌}
 use mathlib.Core.Path.{◌≡◌, refl}
@@ -12,10 +12,6 @@ use Rattle.form.specs.declared.Draft.{Draft}
 use Rattle.form.specs.declared.Field.TheVariants.{Row}
 use Rattle.form.specs.declared.Keyword.{Keyword}
 use Rattle.form.specs.declared.Keyword.TheVariants.{Dated, Classes, Variables, Letter, Entry, Context, Transition, Decision}
-
-pub one_small : (n : ℕ) (test : Bool) → n ≡ cond test 1 0 → n ≤ 1
-one_small n true e = omega arith
-one_small n false e = omega arith
 
 -- a decision has a byte for each class and each variable
 pub decision_size : (d : Draft) → sizes_of (fields_of d Decision) ≡ d.classes + d.variables

@@ -1,22 +1,23 @@
 -- Laws of the words of a line: what is read from a place of the line on, one law for each way that a step of a loop over the line can go. Each by taking the
 -- character at that place off the rest.
-use Prim.Native.Nat.{ℕ, zero, suc, ◌+◌, ◌≤◌, ◌<◌}
+use Prim.Native.Nat.{ℕ, zero, suc, ◌+◌, ◌-◌, ◌≤◌, ◌<◌, min}
 use mathlib.Core.Bool.{true, false, not, ◌&&◌}
 use mathlib.Core.List.{List, [], ◌∷◌, ◌++◌}
-use mathlib.Core.Path.{◌≡◌, refl, sym, ◌∙◌}
+use mathlib.Core.Logic.{◌⊎◌, inl, inr}
+use mathlib.Core.Path.{◌≡◌, refl, sym, ◌∙◌, ap}
+use Rattle.std.proofs.str.Laws.{order}
 use native.Mathlib.Numerals.{add-one}
 use native.Mathlib.Omega.{arith}
 use borrow.Author.Tests.{le-leb, lt-leb, eq-eqb, ne_eqb}
 use lib.Dec.{eqb}
-use lib.ListN.{length, get_or, set, drop, length-drop, drop_of_length-le}
-use lib.Seq.{drop-cons, drop-set-add, take-suc-set}
+use lib.ListN.{length, get_or, take, drop, length-drop, drop_of_length-le}
+use lib.Seq.{take_all, drop-cons, drop-drop}
+use Rattle.std.specs.Prelude.{nat_eq}
+use Rattle.std.specs.List.{starts_with}
 use Rattle.table.specs.Numbers.{blank, least_symbol, most_symbol}
-use Rattle.table.specs.Refusals.{Between}
 use Rattle.table.specs.Search.{within}
-use Rattle.table.specs.Sections.{bytes_from}
-use Rattle.table.proofs.Tests.{tells_within}
-use Rattle.form.specs.Numbers.{zero_digit, nine_digit, hash, underscore, backslash, most_byte}
-use Rattle.form.specs.Words.{got, wrong, is_gap, after_gap, ends_word, ends_line, whole, begins, is_word, is_digit, starts_number, with_digit, digits_from, at_least, number, mark_or, is_escaped, escaped, symbol, symbols_from}
+use Rattle.form.specs.Numbers.{hash, underscore, backslash, most_byte}
+use Rattle.form.specs.Words.{got, wrong, is_gap, after_gap, ends_word, whole, begins, is_word, is_digit, starts_number, with_digit, digits_from, at_least, number, mark_or, symbol, symbols_from}
 use Rattle.form.specs.declared.Expected.{Expected}
 use Rattle.form.specs.declared.Expected.TheVariants as expected
 
@@ -33,18 +34,6 @@ module _ (line : List ℕ) (i : ℕ) (over : length line ≤ i) where
   unfolding after_gap
   gap_over = rw (drop_of_length-le line over)
 
-  pub word_ends_over : ends_word (drop i line) ≡ true
-  unfolding ends_word
-  word_ends_over = rw (drop_of_length-le line over)
-
-  pub line_ends_over : ends_line (drop i line) ≡ true
-  unfolding ends_line
-  line_ends_over = rw (drop_of_length-le line over)
-
-  pub starts_over : starts_number (drop i line) ≡ false
-  unfolding starts_number
-  starts_over = rw (drop_of_length-le line over)
-
   pub digits_over : (least most n : ℕ) → digits_from least most n (drop i line) ≡ got (n ∷ []) (drop i line)
   unfolding digits_from
   digits_over least most n = rw (drop_of_length-le line over)
@@ -53,13 +42,13 @@ module _ (line : List ℕ) (i : ℕ) (over : length line ≤ i) where
   unfolding mark_or
   mark_over mark value = rw (drop_of_length-le line over)
 
-  pub escaped_over : escaped (drop i line) ≡ wrong expected.Escaped (drop i line)
-  unfolding escaped
-  escaped_over = rw (drop_of_length-le line over)
-
-  pub symbol_over : symbol (drop i line) ≡ wrong expected.Symbol (drop i line)
-  unfolding symbol
-  symbol_over = rw (drop_of_length-le line over)
+-- the place, or the line's end where it is past that
+pub within_line : (line : List ℕ) (at from : ℕ) → from ≡ min at (length line) → drop from line ≡ drop at line
+within_line line at from e = go (order at (length line))
+  where
+    go : (at < length line) ⊎ (length line ≤ at) → drop from line ≡ drop at line
+    go (inl lt) = let same : from ≡ at = omega arith in ap (λ (k : ℕ). drop k line) same
+    go (inr le) = let same : from ≡ length line = omega arith in ap (λ (k : ℕ). drop k line) same ∙ sym (past line at le)
 
 -- ---- At a character of the line
 
@@ -71,18 +60,6 @@ module _ (line : List ℕ) (i : ℕ) (here : i < length line) where
   pub gap_stops : is_gap (get_or line i 0) ≡ false → after_gap (drop i line) ≡ drop i line
   unfolding after_gap
   gap_stops e = rw (drop-cons line i 0 here, e, after_gap)
-
-  pub word_ends_here : ends_word (drop i line) ≡ is_gap (get_or line i 0)
-  unfolding ends_word
-  word_ends_here = rw (drop-cons line i 0 here)
-
-  pub line_ends_here : ends_line (drop i line) ≡ eqb (get_or line i 0) hash
-  unfolding ends_line
-  line_ends_here = rw (drop-cons line i 0 here)
-
-  pub starts_here : starts_number (drop i line) ≡ is_digit (get_or line i 0)
-  unfolding starts_number
-  starts_here = rw (drop-cons line i 0 here)
 
   module _ (least most n : ℕ) where
     pub digits_stop : is_digit (get_or line i 0) ≡ false → digits_from least most n (drop i line) ≡ got (n ∷ []) (drop i line)
@@ -108,14 +85,6 @@ module _ (line : List ℕ) (i : ℕ) (here : i < length line) where
     unfolding mark_or
     mark_other e = rw (drop-cons line i 0 here, ne_eqb _ _ e)
 
-  pub escaped_here : is_escaped (get_or line i 0) ≡ true → escaped (drop i line) ≡ got (get_or line i 0 ∷ []) (drop (i + 1) line)
-  unfolding escaped
-  escaped_here e = rw (drop-cons line i 0 here, e, add-one)
-
-  pub escaped_other : is_escaped (get_or line i 0) ≡ false → escaped (drop i line) ≡ wrong expected.Escaped (drop i line)
-  unfolding escaped
-  escaped_other e = rw (drop-cons line i 0 here, e)
-
 -- ---- Symbols
 
 module _ (line : List ℕ) (i : ℕ) (here : i < length line) where
@@ -124,41 +93,39 @@ module _ (line : List ℕ) (i : ℕ) (here : i < length line) where
   symbol_blank e = rw (drop-cons line i 0 here, eq-eqb _ _ e, add-one)
 
   module _ (other : get_or line i 0 ≡ underscore → ⊥) where
-    pub symbol_backslash : get_or line i 0 ≡ backslash → symbol (drop i line) ≡ escaped (drop (i + 1) line)
-    unfolding symbol
-    symbol_backslash e = rw (drop-cons line i 0 here, ne_eqb _ _ other, eq-eqb _ _ e, add-one)
-
     module _ (plain : get_or line i 0 ≡ backslash → ⊥) where
       pub symbol_itself : (within (suc least_symbol) most_symbol (get_or line i 0) && not (eqb (get_or line i 0) hash)) ≡ true
           → symbol (drop i line) ≡ got (get_or line i 0 ∷ []) (drop (i + 1) line)
       unfolding symbol
       symbol_itself e = rw (drop-cons line i 0 here, ne_eqb _ _ other, ne_eqb _ _ plain, e, add-one)
 
-      pub symbol_none : (within (suc least_symbol) most_symbol (get_or line i 0) && not (eqb (get_or line i 0) hash)) ≡ false
-          → symbol (drop i line) ≡ wrong expected.Symbol (drop i line)
-      unfolding symbol
-      symbol_none e = rw (drop-cons line i 0 here, ne_eqb _ _ other, ne_eqb _ _ plain, e)
+-- ---- A word that the rest begins with, as std's `starts_with` tells it
 
--- ---- A word, from its place `j` and the line's place `i` on
+pub begins_as : (word rest : List ℕ) → begins word rest ≡ starts_with nat_eq rest word
+unfolding begins
+begins_as [] rest = refl
+begins_as (w ∷ ws) [] = refl
+begins_as (w ∷ ws) (c ∷ cs) = rw (begins_as ws cs) refl
 
-module _ (word line : List ℕ) (j i : ℕ) where
-  pub word_over : length word ≤ j → is_word (drop j word) (drop i line) ≡ ends_word (drop i line)
-  unfolding is_word begins
-  word_over over = rw (drop_of_length-le word over)
+module _ (word line : List ℕ) (at from : ℕ) (place : from ≡ min at (length line)) where
+  abbrev rest : List ℕ
+  rest = take (length line - from) (drop from line)
 
-  module _ (there : j < length word) where
-    pub word_short : length line ≤ i → is_word (drop j word) (drop i line) ≡ false
-    unfolding is_word begins
-    word_short over = rw (drop-cons word j 0 there, drop_of_length-le line over)
+  begins_there : begins word (drop at line) ≡ starts_with nat_eq rest word
+  begins_there =
+      let here : rest ≡ drop at line = take_all (length line - from) (drop from line) (simp length-drop (omega arith)) ∙ within_line line at from place in
+      sym (ap (begins word) here) ∙ begins_as word rest
 
-    module _ (here : i < length line) where
-      pub word_more : get_or word j 0 ≡ get_or line i 0 → is_word (drop j word) (drop i line) ≡ is_word (drop (j + 1) word) (drop (i + 1) line)
-      unfolding is_word begins
-      word_more e = rw (drop-cons word j 0 there, drop-cons line i 0 here, eq-eqb _ _ e, add-one j, add-one i)
+  pub word_begins : starts_with nat_eq rest word ≡ true → is_word word (drop at line) ≡ ends_word (drop (from + length word) line)
+  unfolding is_word
+  word_begins starts =
+      let past_word : drop (length word) (drop at line) ≡ drop (from + length word) line =
+      ap (drop (length word)) (sym (within_line line at from place)) ∙ drop-drop (length word) from line in
+      rw (begins_there, starts, past_word)
 
-      pub word_other : (get_or word j 0 ≡ get_or line i 0 → ⊥) → is_word (drop j word) (drop i line) ≡ false
-      unfolding is_word begins
-      word_other e = rw (drop-cons word j 0 there, drop-cons line i 0 here, ne_eqb _ _ e)
+  pub word_other : starts_with nat_eq rest word ≡ false → is_word word (drop at line) ≡ false
+  unfolding is_word
+  word_other starts = rw (begins_there, starts)
 
 -- ---- A whole word
 
@@ -172,10 +139,6 @@ module _ (bytes rest : List ℕ) where
   whole_joined e = rw e
 
 -- ---- A number that is a whole word
-
-pub digit_between : (c : ℕ) → is_digit c ≡ true → Between zero_digit nine_digit c
-unfolding is_digit
-digit_between c e = (tells_within zero_digit nine_digit c).0 e
 
 module _ (least most : ℕ) (rest : List ℕ) where
   pub number_none : starts_number rest ≡ false → number least most rest ≡ wrong (expected.Number least most) rest
@@ -220,8 +183,3 @@ module _ (left k : ℕ) (sofar rest : List ℕ) (one : left ≡ suc k) (more : e
   pub symbols_wrong : {e : Expected} {later : List ℕ} → wrong e later ≡ symbol rest → symbols_from left sofar rest ≡ wrong e later
   unfolding symbols_from
   symbols_wrong read = rw (one, more, ← read, symbols_from)
-
-pub bytes_more : (rec : List ℕ) (n many c : ℕ) → n + many < length rec → bytes_from (set rec (n + many) c) n (many + 1) ≡ bytes_from rec n many ++ (c ∷ [])
-unfolding bytes_from
-bytes_more rec n many c room =
-    rw (drop-set-add n rec many c, add-one many) (take-suc-set (drop n rec) many c (simp length-drop (omega arith)))

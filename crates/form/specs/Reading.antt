@@ -1,7 +1,6 @@
 -- A readable table, line by line: which line may stand where, how many of each there may be, and the image that the lines make. The lines stand in the
 -- image's order: dated, classes, variables, then letters, entries, contexts, transitions, decisions; empty lines and remarks stand anywhere.
-use Rattle.std.specs.Prelude.{ℕ, suc, ◌+◌, ◌-◌, ◌*◌, Bool, true, false, cond, ◌||◌, List, [], ◌∷◌, ◌++◌, leb, ltb, eqb, length, get_or, take, drop}
-use Rattle.std.proofs.Math.Option.{Option, none, some}
+use Rattle.std.specs.Prelude.{ℕ, suc, ◌+◌, ◌-◌, ◌*◌, Bool, true, false, cond, ◌||◌, Option, None, Some, List, [], ◌∷◌, ◌++◌, leb, ltb, eqb, length, get_or, take, drop}
 use Rattle.table.specs.Numbers.{letter_size, least_letters, most_letters, entry_size, dated_entry_size, most_entries, context_size, most_contexts, most_columns, first_mark, second_mark, dated_mark}
 use Rattle.table.specs.Search.{within, count}
 use Rattle.form.specs.Numbers.{line_feed}
@@ -108,8 +107,8 @@ pub data Line : Type 0 where
 
 -- the word that the rest begins with
 unfoldable pub keyword_in : List ℕ → List Keyword → Option Keyword
-keyword_in rest [] = none
-keyword_in rest (k ∷ ks) = elim (is_word (spelled k) rest) [ true ↦ some k | false ↦ keyword_in rest ks ]
+keyword_in rest [] = None
+keyword_in rest (k ∷ ks) = elim (is_word (spelled k) rest) [ true ↦ Some k | false ↦ keyword_in rest ks ]
 
 abbrev pub keywords : List Keyword
 keywords = Dated ∷ Classes ∷ Variables ∷ Letter ∷ Entry ∷ Context ∷ Transition ∷ Decision ∷ []
@@ -134,7 +133,7 @@ unfoldable pub read_line : Draft → List ℕ → Line
 read_line d line =
     elim (ends_line (after_gap line)) [
       | true ↦ nothing
-      | false ↦ elim (keyword_in (after_gap line) keywords) [ some k ↦ line_of d k (after_gap line) | none ↦ unlike (expected.Line d.stage) (after_gap line) ]
+      | false ↦ elim (keyword_in (after_gap line) keywords) [ Some k ↦ line_of d k (after_gap line) | None ↦ unlike (expected.Line d.stage) (after_gap line) ]
     ]
 
 -- ---- The whole text: the last draft and the sections' bytes, or the place of the first byte that isn't of the form
@@ -146,11 +145,11 @@ pub data Reading : Type 0 where
 -- at the text's end nothing is missing
 abbrev pub what_is_missing : Draft → Option Expected
 what_is_missing d =
-    cond (ltb d.stage 3) (some (expected.Line d.stage))
-    (cond (ltb d.letters least_letters) (some expected.Letter) (cond (ltb d.transitions d.variables) (some expected.Transition) none))
+    cond (ltb d.stage 3) (Some (expected.Line d.stage))
+    (cond (ltb d.letters least_letters) (Some expected.Letter) (cond (ltb d.transitions d.variables) (Some expected.Transition) None))
 
 unfoldable pub read_end : Draft → List ℕ → ℕ → Reading
-read_end d body end = elim (what_is_missing d) [ none ↦ good d body | some e ↦ bad e end ]
+read_end d body end = elim (what_is_missing d) [ None ↦ good d body | Some e ↦ bad e end ]
 
 -- the next line starts at `at`, one past the line feed, or past the end
 unfoldable pub read_lines : Draft → List ℕ → ℕ → List (List ℕ) → Reading

@@ -1,85 +1,58 @@
-// The values of an answer: its number and place, the bytes written, and the line and the column of a
-// text that isn't of the form. A refusal has no bytes written; line and column are 0 otherwise.
+// Why a table isn't shown or made: the number and the place of each refusal, and the line and the
+// column of a text that isn't of the form, which are 0 otherwise.
 
-ghost use Rattle.form.specs.Calls.{number_of, place_of, written_of, line_of, column_of};
-ghost use Rattle.form.specs.Promises.{Tells};
+ghost use Rattle.std.specs.Prelude.{◌≡◌};
+ghost use Rattle.table.specs.Promises.{Tells};
+ghost use Rattle.form.specs.Calls.{undrawn_number, undrawn_place, undrawn_line, undrawn_column};
+ghost use Rattle.form.specs.declared.Undrawn.TheVariants.{Refused};
 
-use crate::Drawn;
+use crate::Undrawn;
+use table::{Numbered, Refusal};
 
-impl Drawn {
-    // 0 where the call is done, and otherwise the number of the refusal.
-    pub fn number(self) -> u8
-        ensures { Tells number_of self result }
-    {
+impl From<Refusal> for Undrawn {
+    ghost from_gives = { λ refusal undrawn. undrawn ≡ Refused refusal };
+
+    fn from(refusal: Refusal) -> Undrawn {
+        Undrawn::Refused(refusal)
+    }
+}
+
+impl Numbered for Undrawn {
+    ghost number_of = { undrawn_number };
+
+    ghost place_of = { undrawn_place };
+
+    fn number(self) -> u8 {
         match self {
-            Drawn::Done { written: _ } => 0,
-            Drawn::Refused(r) => r.number(),
-            Drawn::Unlike {
-                at: _,
-                line: _,
-                column: _,
-                expected: _,
-            } => 22,
+            Undrawn::Refused(refusal) => refusal.number(),
+            Undrawn::Unlike { .. } => 22,
         }
     }
 
-    pub fn place(self) -> usize
-        ensures { Tells place_of self result }
-    {
+    fn place(self) -> usize {
         match self {
-            Drawn::Done { written: _ } => 0,
-            Drawn::Refused(r) => r.place(),
-            Drawn::Unlike {
-                at: place,
-                line: _,
-                column: _,
-                expected: _,
-            } => place,
+            Undrawn::Refused(refusal) => refusal.place(),
+            Undrawn::Unlike { at, .. } => at,
         }
     }
+}
 
-    pub fn written(self) -> usize
-        ensures { Tells written_of self result }
-    {
-        match self {
-            Drawn::Done { written: n } => n,
-            Drawn::Refused(_) => 0,
-            Drawn::Unlike {
-                at: _,
-                line: _,
-                column: _,
-                expected: _,
-            } => 0,
-        }
-    }
-
+impl Undrawn {
     pub fn line(self) -> usize
-        ensures { Tells line_of self result }
+        ensures { Tells undrawn_line self result }
     {
         match self {
-            Drawn::Done { written: _ } => 0,
-            Drawn::Refused(_) => 0,
-            Drawn::Unlike {
-                at: _,
-                line: n,
-                column: _,
-                expected: _,
-            } => n,
+            Undrawn::Refused(_) => 0,
+            Undrawn::Unlike { line, .. } => line,
         }
     }
 
     pub fn column(self) -> usize
-        ensures { Tells column_of self result }
+        ensures { Tells undrawn_column self result }
     {
         match self {
-            Drawn::Done { written: _ } => 0,
-            Drawn::Refused(_) => 0,
-            Drawn::Unlike {
-                at: _,
-                line: _,
-                column: n,
-                expected: _,
-            } => n,
+            Undrawn::Refused(_) => 0,
+            Undrawn::Unlike { column, .. } => column,
         }
     }
 }

@@ -13,7 +13,7 @@ use table::Refusal;
 pub use wording::{ends_line, ends_word, gap_end, is_escaped, is_word, symbol};
 
 // The word that begins a line.
-#[derive(Clone, Copy)]
+#[derive(Clone, Copy, Debug, PartialEq, Eq)]
 pub enum Keyword {
     Dated,
     Classes,
@@ -28,8 +28,8 @@ pub enum Keyword {
 // What is expected where a text isn't of the form: a line that may stand after the stage that was
 // reached, no more of such a line, a number, a symbol, what may stand after a backslash, a word's
 // end, so many symbols, the colon, the line's end, a letter at least, a transition for each
-// variable.
-#[derive(Clone, Copy)]
+// variable. The stage is the number that the draft has.
+#[derive(Clone, Copy, Debug, PartialEq, Eq)]
 pub enum Expected {
     Line(u8),
     Fewer,
@@ -47,7 +47,7 @@ pub enum Expected {
 // A part of a line after its first word: a number from the one to the other, a symbol, so many
 // symbols, a string, a class with its right context, a shift, the signs and in a dated table the
 // years.
-#[derive(Clone, Copy)]
+#[derive(Clone, Copy, Debug, PartialEq, Eq)]
 pub enum Field {
     Number(u8, u8),
     Symbol,
@@ -60,8 +60,10 @@ pub enum Field {
 
 // What the lines so far say: how far they have come, and the numbers of the trailer and of the
 // records.
-#[derive(Clone, Copy)]
+#[derive(Clone, Copy, Debug, PartialEq, Eq)]
 pub struct Draft {
+    // Kept a number, the rank of the last line: `field_count`, `field_at`, `record_size` and
+    // `fields::fill` take a draft of any stage, and a type of nine stages would ask more of them.
     pub stage: u8,
     pub dated: bool,
     pub classes: u16,
@@ -73,20 +75,18 @@ pub struct Draft {
     pub decisions: u16,
 }
 
-// A number or a symbol, and where the line goes on; or what was expected, and where.
-#[derive(Clone, Copy)]
-pub enum Value {
-    Is(u16, usize),
-    Not(Expected, usize),
+// What was expected where a line isn't of the form, and that place of the line.
+#[derive(Clone, Copy, Debug, PartialEq, Eq)]
+pub struct Unlike {
+    pub expected: Expected,
+    pub at: usize,
 }
 
-// What `show` and `make` answer. A text that isn't of the form is told with the place of the first
-// byte that isn't, its line and column, and what was expected.
-#[derive(Clone, Copy)]
-pub enum Drawn {
-    Done {
-        written: usize,
-    },
+// Why `show` and `make` are refused, which answer otherwise how many bytes they wrote. A text that
+// isn't of the form is told with the place of the first byte that isn't, its line and column, and
+// what was expected.
+#[derive(Clone, Copy, Debug, PartialEq, Eq)]
+pub enum Undrawn {
     Refused(Refusal),
     Unlike {
         at: usize,

@@ -2,13 +2,21 @@
 use Prim.Native.Nat.{ℕ}
 use mathlib.Core.List.{List}
 use mathlib.Core.Path.{◌≡◌, sym, ◌∙◌}
+use Rattle.std.specs.Prelude.{Option}
 use Rattle.table.specs.declared.Section.{Section}
+use Rattle.table.specs.declared.SectionName.{SectionName}
 use Rattle.table.specs.declared.Sections.{Sections}
 use Rattle.table.specs.declared.Years.{Years}
-use Rattle.framing.specs.Promises.{Located, SectionAt, OffsetOf, RecordByte, RecordPart, YearsOf}
+use Rattle.framing.specs.Promises.{Framed, Located, SectionNamed, SectionAt, OffsetOf, RecordByte, RecordPart, YearsOf}
+
+pub framed_determined : {image : List ℕ} {a b : Option Sections} → Framed image a → Framed image b → a ≡ b
+framed_determined p q = p.is ∙ sym q.is
 
 pub locate_determined : {image : List ℕ} {a b : Sections} → Located image a → Located image b → a ≡ b
 locate_determined p q = p.is ∙ sym q.is
+
+pub section_named_determined : {s : Sections} {name : SectionName} {a b : Section} → SectionNamed s name a → SectionNamed s name b → a ≡ b
+section_named_determined p q = p.is ∙ sym q.is
 
 pub section_at_determined : {s : Sections} {i : ℕ} {a b : Section} → SectionAt s i a → SectionAt s i b → a ≡ b
 section_at_determined p q = p.is ∙ sym q.is

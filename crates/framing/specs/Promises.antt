@@ -1,14 +1,27 @@
 -- What each public function of this crate promises, as a relation between what it is given and what it answers. proofs/Promises.antt shows that any two answers that a promise allows are equal.
-use Rattle.std.specs.Prelude.{ℕ, ◌^◌, ◌<◌, List, ◌≡◌}
-use Rattle.table.specs.Sections.{sections_of, offset, record_byte, part_within, first_year, last_year}
+use Rattle.std.specs.Prelude.{ℕ, ◌^◌, ◌<◌, true, false, List, ◌≡◌, Option, Some, None}
+use Rattle.table.specs.Sections.{frame_right, sections_in, sections_of, offset, record_byte, part_within, first_year, last_year}
 use Rattle.table.specs.Records.{section_named, name_at}
+use Rattle.table.specs.declared.SectionName.{SectionName}
 use Rattle.table.specs.declared.Section.{Section}
 use Rattle.table.specs.declared.Sections.{Sections}
 use Rattle.table.specs.declared.Years.{Years}
 
+-- the sections where the frame is right, and otherwise nothing
+abbrev pub sections_if_framed : List ℕ → Option Sections
+sections_if_framed image = elim (frame_right image) [ true ↦ Some (sections_in image) | false ↦ None ]
+
+-- `framed`: those
+pub record Framed (image : List ℕ) (answer : Option Sections) : Type 0 where
+  pub is : answer ≡ sections_if_framed image
+
 -- what is found first of an image, by `locate`: the sections, or none where the frame is wrong
 pub record Located (image : List ℕ) (answer : Sections) : Type 0 where
   pub is : answer ≡ sections_of image
+
+-- `section_named`: the section of this name
+pub record SectionNamed (s : Sections) (name : SectionName) (answer : Section) : Type 0 where
+  pub is : answer ≡ section_named s name
 
 -- `section_at`: the section with this number in image order, counted from 0
 pub record SectionAt (s : Sections) (i : ℕ) (answer : Section) : Type 0 where

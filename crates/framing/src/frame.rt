@@ -1,180 +1,217 @@
 // The frame of an image: its trailer, the five distances, and the sections that they give. An image
-// whose frame is wrong has no sections: all of its numbers are 0, so that a caller sees by the
-// number of classes whether the frame is right.
+// whose frame is wrong is not framed, and has no sections.
 
 ghost use Rattle.std.specs.Prelude.{◌≡◌, true, ◌+◌, ◌-◌, ◌/◌, ◌<◌, ◌≤◌, length};
-ghost use Rattle.table.specs.Sections.{number_at, distance, entry_size_in, trailer_right, distances_right, whole_records, lengths_right, sections_in, no_sections};
-ghost use Rattle.framing.specs.Promises.{Located};
+ghost use Rattle.table.specs.Numbers.{trailer_size};
+ghost use Rattle.table.specs.Sections.{byte_at, trailer_at, distance, classes_in, variables_in, entry_size_in, trailer_right, distances_right, whole_records, lengths_right, sections_in};
+ghost use Rattle.framing.specs.Promises.{Framed, Located};
 
 use table::{Section, Sections};
 
 const TRAILER: usize = 14;
 
-// A byte as a wider number.
-fn wide(b: u8) -> usize
-    ensures { (result ≡ b) × (result < 256) }
-{
-    b as usize
+const NO_SECTION: Section = Section {
+    start: 0,
+    size: 0,
+    records: 0,
+};
+
+const NO_SECTIONS: Sections = Sections {
+    alphabet: NO_SECTION,
+    contractions: NO_SECTION,
+    contexts: NO_SECTION,
+    transitions: NO_SECTION,
+    decisions: NO_SECTION,
+    classes: 0,
+    variables: 0,
+};
+
+// From the trailer back to each section.
+#[derive(Clone, Copy)]
+struct Distances {
+    alphabet: u16,
+    contractions: u16,
+    contexts: u16,
+    transitions: u16,
+    decisions: u16,
 }
 
-// A two-byte number, low byte first.
-fn number_at(image: &[u8], i: usize) -> usize
-    requires { i + 1 < length image.now }
-    ensures { (result ≡ number_at image.now i) × (result < 65536) }
-{
-    wide(image[i]) + 256 * wide(image[i + 1])
+// The trailer of an image that is long enough to have one, read where it lies.
+#[derive(Clone, Copy)]
+struct Trailer<'a> {
+    image: &'a [u8],
+    ghost there: { trailer_size ≤ length image.now },
 }
 
-// From the trailer back to section `k`.
-fn distance_of(image: &[u8], k: usize) -> usize
-    requires { (14 ≤ length image.now) × (k < 5) }
-    ensures { (result ≡ distance image.now k) × (result < 65536) }
-{
-    number_at(image, image.len() - TRAILER + 2 * k)
-}
+impl<'a> Trailer<'a> {
+    // Byte `i` of the trailer.
+    fn byte(self, i: usize) -> u8
+        requires { i < 14 }
+        ensures { result ≡ byte_at self.entry.image.now (trailer_at self.entry.image.now + i) }
+    {
+        self.image[self.image.len() - TRAILER + i]
+    }
 
-// The marks, and the numbers of classes and variables.
-fn trailer_right(image: &[u8]) -> bool
-    requires { 14 ≤ length image.now }
-    ensures { result ≡ trailer_right image.now }
-{
-    let at = image.len() - TRAILER;
-    let classes = image[at + 10];
-    let mark = image[at + 13];
-    (image[at + 12] == 66)
-        & ((mark == 51) | (mark == 52))
-        & ((1 <= classes) & (classes <= 40))
-        & (image[at + 11] <= 15)
-}
+    // From the trailer back to section `k`, a two-byte number, low byte first.
+    fn distance(self, k: usize) -> u16
+        requires { k < 5 }
+        ensures { result ≡ distance self.entry.image.now k }
+    {
+        u16::from_le_bytes([self.byte(2 * k), self.byte(2 * k + 1)])
+    }
 
-// The first distance is the length of all five sections, and distances never rise.
-fn distances_right(image: &[u8]) -> bool
-    requires { 14 ≤ length image.now }
-    ensures { result ≡ distances_right image.now }
-{
-    let d0 = distance_of(image, 0);
-    let d1 = distance_of(image, 1);
-    let d2 = distance_of(image, 2);
-    let d3 = distance_of(image, 3);
-    let d4 = distance_of(image, 4);
-    (d0 == image.len() - TRAILER) & (d1 <= d0) & (d2 <= d1) & (d3 <= d2) & (d4 <= d3)
-}
+    fn distances(self) -> Distances
+        ensures { let image = self.entry.image.now in
+            result ≡ record {
+              alphabet = distance image 0;
+              contractions = distance image 1;
+              contexts = distance image 2;
+              transitions = distance image 3;
+              decisions = distance image 4;
+            } }
+    {
+        Distances {
+            alphabet: self.distance(0),
+            contractions: self.distance(1),
+            contexts: self.distance(2),
+            transitions: self.distance(3),
+            decisions: self.distance(4),
+        }
+    }
 
-// The bytes of a contraction record: with its years where the trailer's last byte is 52.
-fn entry_size(image: &[u8]) -> u16
-    requires { 14 ≤ length image.now }
-    ensures { result ≡ entry_size_in image.now }
-{
-    let at = image.len() - TRAILER;
-    if image[at + 13] == 52 { 22 } else { 18 }
-}
+    // The numbers of classes and variables.
+    fn classes(self) -> u16
+        ensures { result ≡ classes_in self.entry.image.now }
+    {
+        u16::from(self.byte(10))
+    }
 
-// The section from distance `d` to distance `e` before a trailer at `at`, in records of `size`
-// bytes.
-fn section_of(at: usize, d: usize, e: usize, size: u16) -> Section
-    requires { (e ≤ d) × (d ≤ at) × (at < 65536) × (0 < size) }
-    ensures { result ≡ record { start = at - d; size = size; records = (d - e) / size } }
-{
-    let start = at - d;
-    let records = (d - e) / (size as usize);
-    Section {
-        start: start as u16,
-        size: size,
-        records: records as u16,
+    fn variables(self) -> u16
+        ensures { result ≡ variables_in self.entry.image.now }
+    {
+        u16::from(self.byte(11))
+    }
+
+    // The bytes of a contraction record: with its years where the trailer's last byte is 52.
+    fn entry_size(self) -> u16
+        ensures { result ≡ entry_size_in self.entry.image.now }
+    {
+        if self.byte(13) == 52 { 22 } else { 18 }
+    }
+
+    // The marks, and the numbers of classes and variables.
+    fn is_right(self) -> bool
+        ensures { result ≡ trailer_right self.entry.image.now }
+    {
+        let classes = self.byte(10);
+        let mark = self.byte(13);
+        self.byte(12) == 66
+            && (mark == 51 || mark == 52)
+            && 1 <= classes
+            && classes <= 40
+            && self.byte(11) <= 15
+    }
+
+    // The first distance is the length of all five sections, and distances never rise.
+    fn distances_right(self) -> bool
+        ensures { result ≡ distances_right self.entry.image.now }
+    {
+        let d = self.distances();
+        usize::from(d.alphabet) == self.image.len() - TRAILER
+            && d.contractions <= d.alphabet
+            && d.contexts <= d.contractions
+            && d.transitions <= d.contexts
+            && d.decisions <= d.transitions
+    }
+
+    // The sections that the trailer gives, where it and the distances are right.
+    #[tactic(auto, using(table::proofs::Distances::distances_fall, table::proofs::Distances::trailer_numbers, table::proofs::Forms::entry_long))]
+    fn sections(self) -> Sections
+        requires trailer { trailer_right self.image.now ≡ true }
+        requires distances { distances_right self.image.now ≡ true }
+        ensures { result ≡ sections_in self.entry.image.now }
+    {
+        let d = self.distances();
+        let classes = self.classes();
+        let variables = self.variables();
+        let all = d.alphabet;
+        Sections {
+            alphabet: section_of(all, d.alphabet, d.contractions, 3),
+            contractions: section_of(all, d.contractions, d.contexts, self.entry_size()),
+            contexts: section_of(all, d.contexts, d.transitions, 4),
+            transitions: section_of(all, d.transitions, d.decisions, classes),
+            decisions: section_of(all, d.decisions, 0, classes + variables),
+            classes,
+            variables,
+        }
+    }
+
+    // Each section is whole records, in the allowed number.
+    #[tactic(auto, using(table::proofs::Distances::distances_fall))]
+    fn lengths_right(self, s: Sections) -> bool
+        requires { distances_right self.image.now ≡ true }
+        ensures { result ≡ lengths_right self.entry.image.now s }
+    {
+        let d = self.distances();
+        whole_records(s.alphabet, d.alphabet - d.contractions, 1, 63)
+            && whole_records(s.contractions, d.contractions - d.contexts, 0, 1199)
+            && whole_records(s.contexts, d.contexts - d.transitions, 0, 5)
+            && whole_records(
+                s.transitions,
+                d.transitions - d.decisions,
+                s.variables,
+                s.variables,
+            )
+            && whole_records(s.decisions, d.decisions, 0, 20)
     }
 }
 
-// The sections that the trailer gives, where it and the distances are right.
-fn sections_in(image: &[u8]) -> Sections
-    requires { (14 ≤ length image.now) × (trailer_right image.now ≡ true) × (distances_right image.now ≡ true) }
-    ensures { result ≡ sections_in image.now }
+// The section from distance `d` to distance `e` before the trailer, of sections that are `all` bytes
+// long, in records of `size` bytes.
+fn section_of(all: u16, d: u16, e: u16, size: u16) -> Section
+    requires falling { (e ≤ d) × (d ≤ all) }
+    requires filled { 0 < size }
+    ensures { result ≡ record { start = all - d; size = size; records = (d - e) / size } }
 {
-    let at = image.len() - TRAILER;
-    let classes = image[at + 10] as u16;
-    let variables = image[at + 11] as u16;
-    let d0 = distance_of(image, 0);
-    let d1 = distance_of(image, 1);
-    let d2 = distance_of(image, 2);
-    let d3 = distance_of(image, 3);
-    let d4 = distance_of(image, 4);
-    let size = entry_size(image);
-    Sections {
-        alphabet: section_of(at, d0, d1, 3),
-        contractions: section_of(at, d1, d2, size),
-        contexts: section_of(at, d2, d3, 4),
-        transitions: section_of(at, d3, d4, classes),
-        decisions: section_of(at, d4, 0, classes + variables),
-        classes: classes,
-        variables: variables,
+    Section {
+        start: all - d,
+        size,
+        records: (d - e) / size,
     }
 }
 
 // The section is whole records, in the allowed number.
-fn whole_records(s: Section, bytes: usize, least: u16, most: u16) -> bool
+fn whole_records(s: Section, bytes: u16, least: u16, most: u16) -> bool
     ensures { result ≡ whole_records s bytes least most }
 {
-    let size = s.size as usize;
-    let records = s.records as usize;
-    (size * records == bytes) & ((least as usize <= records) & (records <= most as usize))
+    u32::from(s.size) * u32::from(s.records) == u32::from(bytes)
+        && least <= s.records
+        && s.records <= most
 }
 
-// Each section is whole records, in the allowed number.
-fn lengths_right(image: &[u8], s: Sections) -> bool
-    requires { (14 ≤ length image.now) × (distances_right image.now ≡ true) }
-    ensures { result ≡ lengths_right image.now s }
+// The sections of an image whose frame is right.
+pub fn framed(image: &[u8]) -> Option<Sections>
+    ensures { Framed image.now result }
 {
-    let d0 = distance_of(image, 0);
-    let d1 = distance_of(image, 1);
-    let d2 = distance_of(image, 2);
-    let d3 = distance_of(image, 3);
-    let d4 = distance_of(image, 4);
-    let alphabet = s.alphabet;
-    let contractions = s.contractions;
-    let contexts = s.contexts;
-    let transitions = s.transitions;
-    let decisions = s.decisions;
-    let variables = s.variables;
-    whole_records(alphabet, d0 - d1, 1, 63)
-        & whole_records(contractions, d1 - d2, 0, 1199)
-        & whole_records(contexts, d2 - d3, 0, 5)
-        & whole_records(transitions, d3 - d4, variables, variables)
-        & whole_records(decisions, d4, 0, 20)
-}
-
-// No sections.
-fn no_sections() -> Sections
-    ensures { result ≡ no_sections }
-{
-    let none = Section {
-        start: 0,
-        size: 0,
-        records: 0,
-    };
-    Sections {
-        alphabet: none,
-        contractions: none,
-        contexts: none,
-        transitions: none,
-        decisions: none,
-        classes: 0,
-        variables: 0,
+    if image.len() < TRAILER {
+        return None;
     }
+    let trailer = Trailer { image };
+    if !(trailer.is_right() && trailer.distances_right()) {
+        return None;
+    }
+    let s = trailer.sections();
+    if !trailer.lengths_right(s) {
+        return None;
+    }
+    Some(s)
 }
 
-// The sections of any image: none where its frame is wrong.
+// The sections of any image: where its frame is wrong all of their numbers are 0, so that a caller
+// reads an image without records.
+// Kept: its promise, Located, gives sections for every image, and it can't fail; `framed` can.
 pub fn locate(image: &[u8]) -> Sections
     ensures { Located image.now result }
 {
-    if image.len() < TRAILER {
-        return no_sections();
-    }
-    if !(trailer_right(image) & distances_right(image)) {
-        return no_sections();
-    }
-    let s = sections_in(image);
-    if lengths_right(image, s) {
-        s
-    } else {
-        no_sections()
-    }
+    framed(image).unwrap_or(NO_SECTIONS)
 }

@@ -7,5 +7,5 @@
 mod frame;
 mod read;
 
-pub use frame::locate;
-pub use read::{offset_of, record_byte, record_part, section_at, years_of};
+pub use frame::{framed, locate};
+pub use read::{offset_of, record_byte, record_part, section_at, section_named, years_of};

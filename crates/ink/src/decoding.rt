@@ -1,103 +1,93 @@
-// UTF-8: the character that stands at a place of the text. A byte that begins no whole character is
-// one of its own, with a code that no character has.
+// UTF-8: the characters of the text, from its front. A byte that begins no whole character is one of
+// its own, with a code that no character has.
 
-ghost use Rattle.std.specs.Prelude.{◌≡◌, ℕ, ◌+◌, ◌≤◌, ◌<◌, length, get_or, drop};
-ghost use Rattle.inkprint.specs.Characters.{goes_on, of_two, of_three, of_four, next_of};
+ghost use Rattle.std.specs.Prelude.{◌≡◌, ℕ, ◌≤◌, length, slice_index, MatchOption};
+ghost use Rattle.table.specs.Refusals.{Between};
+ghost use Rattle.inkprint.specs.Characters.{of_three, of_four, next_of};
+ghost use Rattle.inkprint.specs.inside.Steps.{Begins, Ends};
 
 use inkprint::Character;
 
-// The byte at a place, and 0 past the end.
-fn byte_at(text: &[u8], at: usize) -> u8
-    ensures { result ≡ get_or text.now at 0 }
-{
-    if at < text.len() {
-        return text[at];
-    }
-    0
-}
+// A byte that begins no whole character: its code is past the last.
+const BROKEN: Character = Character {
+    code: 1114112,
+    size: 1,
+};
 
-// Whether a byte goes on with a character.
-fn goes_on(b: u8) -> bool
-    ensures { result ≡ goes_on b }
+// What three bytes are together: a character, if no shorter form has it and it is no surrogate.
+#[tactic(auto, unfolding(inkprint::specs::Characters::of_three, inkprint::specs::Characters::of_four, inkprint::specs::Characters::three_bytes))]
+fn three(a: u8, b: u8, c: u8) -> Character
+    requires first { Between 224 239 a }
+    requires second { Between 128 191 b }
+    requires third { Between 128 191 c }
+    ensures { (d : ℕ) → result ≡ of_three a b c d }
 {
-    (128 <= b) & (b <= 191)
-}
-
-fn broken() -> Character
-    ensures { result ≡ record { code = 1114112; size = 1 } }
-{
-    Character {
-        code: 1114112,
-        size: 1,
+    let code = 4096 * u32::from(a - 224) + 64 * u32::from(b - 128) + u32::from(c - 128);
+    match code {
+        0..=2047 | 55296..=57343 => BROKEN,
+        _ => Character { code, size: 3 },
     }
 }
 
-// A character of four bytes.
-fn of_four(a: u8, b: u8, c: u8, d: u8) -> Character
+// What four bytes are together: a character, if no shorter form has it and it isn't past the last.
+#[tactic(auto, unfolding(inkprint::specs::Characters::of_four, inkprint::specs::Characters::four_bytes))]
+fn four(a: u8, b: u8, c: u8, d: u8) -> Character
+    requires first { Between 240 244 a }
+    requires second { Between 128 191 b }
+    requires third { Between 128 191 c }
+    requires fourth { Between 128 191 d }
     ensures { result ≡ of_four a b c d }
 {
-    if !((240 <= a) & (a <= 244) & goes_on(b) & goes_on(c) & goes_on(d)) {
-        return broken();
-    }
-    let code = 262144 * ((a - 240) as u32)
-        + 4096 * ((b - 128) as u32)
-        + 64 * ((c - 128) as u32)
-        + ((d - 128) as u32);
-    if (code < 65536) | (1114111 < code) {
-        return broken();
-    }
-    Character {
-        code: code,
-        size: 4,
+    let code = 262144 * u32::from(a - 240)
+        + 4096 * u32::from(b - 128)
+        + 64 * u32::from(c - 128)
+        + u32::from(d - 128);
+    match code {
+        65536..=1114111 => Character { code, size: 4 },
+        _ => BROKEN,
     }
 }
 
-// A character of three bytes, or of four.
-fn of_three(a: u8, b: u8, c: u8, d: u8) -> Character
-    ensures { result ≡ of_three a b c d }
+// The character at the front of the text, which begins with no byte of ASCII.
+#[tactic(auto, unfolding(inkprint::specs::Characters::next_of, inkprint::specs::Characters::of_bytes, inkprint::specs::Characters::of_two, inkprint::specs::Characters::of_three, inkprint::specs::Characters::of_four, inkprint::specs::Characters::two_bytes))]
+#[inline(never)]
+fn longer(text: &[u8]) -> Character
+    requires { 128 ≤ slice_index text.now 0 }
+    ensures { result ≡ next_of text.now }
 {
-    if !((224 <= a) & (a <= 239) & goes_on(b) & goes_on(c)) {
-        return of_four(a, b, c, d);
-    }
-    let code = 4096 * ((a - 224) as u32) + 64 * ((b - 128) as u32) + ((c - 128) as u32);
-    if (code < 2048) | ((55296 <= code) & (code <= 57343)) {
-        return of_four(a, b, c, d);
-    }
-    Character {
-        code: code,
-        size: 3,
+    match *text {
+        [a @ 194..=223, b @ 128..=191, ..] => Character {
+            code: 64 * u32::from(a - 192) + u32::from(b - 128),
+            size: 2,
+        },
+        [a @ 224..=239, b @ 128..=191, c @ 128..=191, ..] => three(a, b, c),
+        [
+            a @ 240..=244,
+            b @ 128..=191,
+            c @ 128..=191,
+            d @ 128..=191,
+            ..
+        ] => four(a, b, c, d),
+        _ => BROKEN,
     }
 }
 
-// A character of two bytes, or of more.
-fn of_two(a: u8, b: u8, c: u8, d: u8) -> Character
-    ensures { result ≡ of_two a b c d }
+// The character at the front of the text, and the rest of it. It is small, so that each loop has it
+// in place.
+#[inline]
+pub(crate) fn next(text: &[u8]) -> Option<(Character, &[u8])>
+    ensures { MatchOption result (Ends text.now) (λ p. Begins text.now p.0 p.1.now) }
 {
-    if !((194 <= a) & (a <= 223) & goes_on(b)) {
-        return of_three(a, b, c, d);
-    }
-    Character {
-        code: 64 * ((a - 192) as u32) + ((b - 128) as u32),
-        size: 2,
-    }
-}
-
-// The character at a place of the text.
-pub(crate) fn next(text: &[u8], at: usize) -> Character
-    requires { at < length text.now }
-    ensures { (result ≡ next_of (drop at text.now)) × (result.size ≤ 4) × (0 < result.size) × (at + result.size ≤ length text.now) }
-{
-    let a = text[at];
-    if a < 128 {
-        return Character {
-            code: a as u32,
+    let [a, rest @ ..] = text else {
+        return None;
+    };
+    if *a < 128 {
+        let c = Character {
+            code: u32::from(*a),
             size: 1,
         };
+        return Some((c, rest));
     }
-    of_two(
-        a,
-        byte_at(text, at + 1),
-        byte_at(text, at + 2),
-        byte_at(text, at + 3),
-    )
+    let c = longer(text);
+    Some((c, &text[c.size..]))
 }

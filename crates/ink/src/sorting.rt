@@ -1,7 +1,7 @@
 // What each character is to the marks, by its code.
 
 ghost use Rattle.std.specs.Prelude.{◌≡◌};
-ghost use Rattle.inkprint.specs.Glyphs.{is_own_sign, literal_of, latin_glyph, is_gap, is_nothing, is_dash, is_long_dash, typographic as typographic_of, ascii_sign, other_glyph, glyph_of, is_marked, is_letter, is_capital, is_apostrophe};
+ghost use Rattle.inkprint.specs.Glyphs.{latin_glyph, typographic as typographic_of, ascii_sign, other_glyph, glyph_of, is_marked, is_letter, is_capital, is_apostrophe};
 
 use inkprint::Glyph;
 
@@ -19,172 +19,102 @@ const LATIN: [u8; 192] = [
     85, 117, 87, 119, 89, 121, 89, 90, 122, 90, 122, 90, 122, 0,
 ];
 
-// Whether a sign is one of the convention's own.
-fn is_own_sign(c: u8) -> bool
-    ensures { result ≡ is_own_sign c }
-{
-    (c == 36) | (c == 37) | (c == 43) | (c == 60) | (c == 61) | (c == 62) | (c == 95) | (c == 124)
-}
-
-// What stands after the code sign of a literal one.
-fn literal_of(c: u8) -> u8
-    ensures { result ≡ literal_of c }
-{
-    if c == 124 {
-        return 73;
-    }
-    c
-}
-
 // An accented letter, by the table.
+#[tactic(auto, unfolding(inkprint::specs::Glyphs::latin_glyph))]
 fn latin_glyph(l: u8) -> Glyph
     ensures { result ≡ latin_glyph l }
 {
-    if l == 0 {
-        return Glyph::Unmarked;
+    match l {
+        0 => Glyph::Unmarked,
+        1..=90 => Glyph::Letter(l, true, true),
+        _ => Glyph::Letter(l - 32, false, true),
     }
-    if l <= 90 {
-        return Glyph::Letter(l, true, true);
-    }
-    Glyph::Letter(l - 32, false, true)
-}
-
-fn is_gap(c: u32) -> bool
-    ensures { result ≡ is_gap c }
-{
-    (c == 32) | (c == 9) | (c == 160) | ((8192 <= c) & (c <= 8202)) | (c == 8239)
-}
-
-fn is_nothing(c: u32) -> bool
-    ensures { result ≡ is_nothing c }
-{
-    (c == 13) | (c == 173) | (c == 65279)
-}
-
-fn is_dash(c: u32) -> bool
-    ensures { result ≡ is_dash c }
-{
-    ((8208 <= c) & (c <= 8211)) | (c == 8722)
-}
-
-fn is_long_dash(c: u32) -> bool
-    ensures { result ≡ is_long_dash c }
-{
-    (c == 8212) | (c == 8213)
 }
 
 // A typographic sign.
+#[tactic(auto, unfolding(inkprint::specs::Glyphs::typographic, inkprint::specs::Glyphs::is_dash, inkprint::specs::Glyphs::is_long_dash))]
 fn typographic(c: u32) -> Glyph
     ensures { result ≡ typographic_of c }
 {
-    if is_dash(c) {
-        return Glyph::Plain(45);
+    match c {
+        8208..=8211 | 8722 => Glyph::Plain(b'-'),
+        8212 | 8213 => Glyph::LongDash,
+        8216 => Glyph::Opens,
+        8217 => Glyph::Closes,
+        8220 | 8221 => Glyph::Plain(b'"'),
+        8230 => Glyph::Dots,
+        _ => Glyph::Unmarked,
     }
-    if is_long_dash(c) {
-        return Glyph::LongDash;
-    }
-    if c == 8230 {
-        return Glyph::Dots;
-    }
-    if (c == 8220) | (c == 8221) {
-        return Glyph::Plain(34);
-    }
-    if c == 8216 {
-        return Glyph::Opens;
-    }
-    if c == 8217 {
-        return Glyph::Closes;
-    }
-    Glyph::Unmarked
 }
 
 // A sign of ASCII.
+#[tactic(auto, unfolding(inkprint::specs::Glyphs::ascii_sign, inkprint::specs::Glyphs::is_own_sign, inkprint::specs::Glyphs::literal_of))]
 fn ascii_sign(c: u8) -> Glyph
     ensures { result ≡ ascii_sign c }
 {
-    if is_own_sign(c) {
-        return Glyph::Literal(literal_of(c));
+    match c {
+        b'$' | b'%' | b'+' | b'<' | b'=' | b'>' | b'_' => Glyph::Literal(c),
+        b'|' => Glyph::Literal(b'I'),
+        b'[' => Glyph::Plain(b'<'),
+        b']' => Glyph::Plain(b'>'),
+        _ => Glyph::Plain(c),
     }
-    if c == 91 {
-        return Glyph::Plain(60);
-    }
-    if c == 93 {
-        return Glyph::Plain(62);
-    }
-    Glyph::Plain(c)
 }
 
 // A character that is no letter of ASCII, no gap and no sign of it.
+#[tactic(auto, unfolding(inkprint::specs::Glyphs::other_glyph, inkprint::specs::Glyphs::is_nothing))]
 fn other_glyph(c: u32) -> Glyph
     ensures { result ≡ other_glyph c }
 {
-    if c == 10 {
-        return Glyph::Feed;
+    match c {
+        10 => Glyph::Feed,
+        12 => Glyph::Page,
+        13 | 173 | 65279 => Glyph::Nothing,
+        192..=383 => latin_glyph(LATIN[(c - 192) as usize]),
+        _ => typographic(c),
     }
-    if c == 12 {
-        return Glyph::Page;
-    }
-    if is_nothing(c) {
-        return Glyph::Nothing;
-    }
-    if (192 <= c) & (c <= 383) {
-        return latin_glyph(LATIN[(c - 192) as usize]);
-    }
-    typographic(c)
 }
 
-// The glyph of a character.
+// The glyph of a character. Most are letters, each told by one test before the rest.
+#[tactic(auto, unfolding(inkprint::specs::Glyphs::glyph_of, inkprint::specs::Glyphs::is_gap))]
 pub(crate) fn glyph(c: u32) -> Glyph
     ensures { result ≡ glyph_of c }
 {
-    if (97 <= c) & (c <= 122) {
+    // Kept: `as`, here and in the table's index. A code that is told by a pattern fits, and `try_from`
+    // would add a case that can't be.
+    if matches!(c, 97..=122) {
         return Glyph::Letter((c - 32) as u8, false, false);
     }
-    if (65 <= c) & (c <= 90) {
+    if matches!(c, 65..=90) {
         return Glyph::Letter(c as u8, true, false);
     }
-    if is_gap(c) {
-        return Glyph::Gap;
+    match c {
+        9 | 32 | 160 | 8192..=8202 | 8239 => Glyph::Gap,
+        33..=126 => ascii_sign(c as u8),
+        _ => other_glyph(c),
     }
-    if (33 <= c) & (c <= 126) {
-        return ascii_sign(c as u8);
-    }
-    other_glyph(c)
 }
 
 pub(crate) fn is_marked(g: Glyph) -> bool
     ensures { result ≡ is_marked g }
 {
-    match g {
-        Glyph::Unmarked => false,
-        _ => true,
-    }
+    !matches!(g, Glyph::Unmarked)
 }
 
 pub(crate) fn is_letter(g: Glyph) -> bool
     ensures { result ≡ is_letter g }
 {
-    match g {
-        Glyph::Letter(_, _, _) => true,
-        _ => false,
-    }
+    matches!(g, Glyph::Letter(..))
 }
 
 pub(crate) fn is_capital(g: Glyph) -> bool
     ensures { result ≡ is_capital g }
 {
-    match g {
-        Glyph::Letter(_, capital, _) => capital,
-        _ => false,
-    }
+    matches!(g, Glyph::Letter(_, true, _))
 }
 
 pub(crate) fn is_apostrophe(g: Glyph) -> bool
     ensures { result ≡ is_apostrophe g }
 {
-    match g {
-        Glyph::Plain(c) => c == 39,
-        Glyph::Closes => true,
-        _ => false,
-    }
+    matches!(g, Glyph::Plain(b'\'') | Glyph::Closes)
 }

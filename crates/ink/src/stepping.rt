@@ -1,201 +1,159 @@
 // One character: its mark, and the state after it.
 
-ghost use Rattle.std.specs.Prelude.{◌≡◌, ℕ, ◌≤◌, length, drop};
+ghost use Rattle.std.specs.Prelude.{◌≡◌, ℕ, ◌≤◌, length};
 ghost use Rattle.inkprint.specs.Characters.{characters_of};
-ghost use Rattle.inkprint.specs.Marks.{none as no_mark, one as one_byte, two as two_bytes, three as three_bytes, four as four_bytes, state as state_of, step as step_to, word_of, capital_signs, letter_mark, letter_step, sign_step, close_step, gap_step, feed_step, step_of};
+ghost use Rattle.inkprint.specs.inside.Steps.{Small};
+ghost use Rattle.inkprint.specs.Marks.{signs, state as state_of, step as step_to, word_of, capital_signs, letter_mark, letter_step, sign_step, close_step, gap_step, feed_step, step_of};
 
 use crate::looking::{all_capitals, is_blank, starts_capital, starts_letter};
-use inkprint::{Glyph, Signs, State, Step};
+use inkprint::{Glyph, Line, Signs, State, Step, Word};
 
-fn one(a: u8) -> Signs
-    ensures { result ≡ one_byte a }
+// The mark of these bytes.
+fn signs(bytes: &[u8]) -> Signs
+    requires { length bytes.now ≤ 4 }
+    ensures { result ≡ signs bytes.now }
 {
+    let mut all = [0; 4];
+    all[..bytes.len()].copy_from_slice(bytes);
     Signs {
-        count: 1,
-        a: a,
-        b: 0,
-        c: 0,
-        d: 0,
+        count: bytes.len(),
+        bytes: all,
     }
 }
 
-fn two(a: u8, b: u8) -> Signs
-    ensures { result ≡ two_bytes a b }
-{
-    Signs {
-        count: 2,
-        a: a,
-        b: b,
-        c: 0,
-        d: 0,
-    }
-}
-
-fn three(a: u8, b: u8, c: u8) -> Signs
-    ensures { result ≡ three_bytes a b c }
-{
-    Signs {
-        count: 3,
-        a: a,
-        b: b,
-        c: c,
-        d: 0,
-    }
-}
-
-fn four(a: u8, b: u8, c: u8, d: u8) -> Signs
-    ensures { result ≡ four_bytes a b c d }
-{
-    Signs {
-        count: 4,
-        a: a,
-        b: b,
-        c: c,
-        d: d,
-    }
-}
-
-fn nothing() -> Signs
-    ensures { result ≡ no_mark }
-{
-    Signs {
-        count: 0,
-        a: 0,
-        b: 0,
-        c: 0,
-        d: 0,
-    }
-}
-
-fn step(mark: Signs, line: u8, word: u8, single: bool) -> Step
+fn step(mark: Signs, line: Line, word: Word, single: bool) -> Step
     ensures { result ≡ step_to mark (state_of line word single) }
 {
     Step {
-        mark: mark,
-        next: State {
-            line: line,
-            word: word,
-            single: single,
-        },
+        mark,
+        next: State { line, word, single },
     }
 }
 
 // Which kind of word a letter stands in.
-fn word_of(s: State, capital: bool, text: &[u8], at: usize) -> u8
-    ensures { result ≡ word_of s capital (characters_of (drop at text.now)) }
+#[tactic(auto, unfolding(inkprint::specs::Marks::word_of))]
+fn word_of(s: State, capital: bool, rest: &[u8]) -> Word
+    ensures { result ≡ word_of s capital (characters_of rest.now) }
 {
-    if s.word != 0 {
-        return s.word;
+    match s.word {
+        Word::Outside if capital && all_capitals(rest) => Word::Capitals,
+        Word::Outside => Word::Mixed,
+        word => word,
     }
-    if capital && all_capitals(text, at) {
-        return 1;
-    }
-    2
 }
 
 // How many signs of a capital stand before it.
-fn capital_signs(s: State, capital: bool, word: u8) -> u8
-    ensures { (result ≡ capital_signs s capital word) × (result ≤ 2) }
+#[tactic(auto, unfolding(inkprint::specs::Marks::capital_signs))]
+fn capital_signs(s: State, capital: bool, word: Word) -> u8
+    ensures is { result ≡ capital_signs s capital word }
+    ensures most { result ≤ 2 }
 {
     if !capital {
         return 0;
     }
-    if word != 1 {
-        return 1;
+    match (word, s.word) {
+        (Word::Capitals, Word::Outside) => 2,
+        (Word::Capitals, _) => 0,
+        _ => 1,
     }
-    if s.word == 0 {
-        return 2;
-    }
-    0
 }
 
-fn letter_mark(signs: u8, accented: bool, letter: u8) -> Signs
-    ensures { result ≡ letter_mark signs accented letter }
+#[tactic(auto, unfolding(inkprint::specs::Marks::letter_mark))]
+fn letter_mark(capitals: u8, accented: bool, letter: u8) -> Signs
+    ensures { result ≡ letter_mark capitals accented letter }
 {
-    if accented {
-        if signs == 0 {
-            return two(37, letter);
-        }
-        if signs == 1 {
-            return three(61, 37, letter);
-        }
-        return four(61, 61, 37, letter);
+    match (capitals, accented) {
+        (0, false) => signs(&[letter]),
+        (1, false) => signs(&[b'=', letter]),
+        (_, false) => signs(&[b'=', b'=', letter]),
+        (0, true) => signs(&[b'%', letter]),
+        (1, true) => signs(&[b'=', b'%', letter]),
+        (_, true) => signs(&[b'=', b'=', b'%', letter]),
     }
-    if signs == 0 {
-        return one(letter);
-    }
-    if signs == 1 {
-        return two(61, letter);
-    }
-    three(61, 61, letter)
 }
 
-fn letter_step(s: State, letter: u8, capital: bool, accented: bool, text: &[u8], at: usize) -> Step
-    ensures { result ≡ letter_step s letter capital accented (characters_of (drop at text.now)) }
+#[tactic(auto, unfolding(inkprint::specs::Marks::letter_step))]
+fn letter_step(s: State, letter: u8, capital: bool, accented: bool, rest: &[u8]) -> Step
+    ensures { result ≡ letter_step s letter capital accented (characters_of rest.now) }
 {
-    let word = word_of(s, capital, text, at);
-    let signs = capital_signs(s, capital, word);
-    step(letter_mark(signs, accented, letter), 2, word, s.single)
+    let word = word_of(s, capital, rest);
+    let capitals = capital_signs(s, capital, word);
+    step(
+        letter_mark(capitals, accented, letter),
+        Line::Filled,
+        word,
+        s.single,
+    )
 }
 
 // A sign that stands for itself.
-fn sign_step(s: State, sign: u8, text: &[u8], at: usize) -> Step
-    ensures { result ≡ sign_step s sign (characters_of (drop at text.now)) }
+#[tactic(auto, unfolding(inkprint::specs::Marks::sign_step))]
+fn sign_step(s: State, sign: u8, rest: &[u8]) -> Step
+    ensures { result ≡ sign_step s sign (characters_of rest.now) }
 {
-    if sign == 39 && starts_capital(text, at) {
-        return step(one(sign), 2, s.word, s.single);
+    if sign == b'\'' && starts_capital(rest) {
+        return step(signs(&[sign]), Line::Filled, s.word, s.single);
     }
-    step(one(sign), 2, 0, s.single)
+    step(signs(&[sign]), Line::Filled, Word::Outside, s.single)
 }
 
 // A right single quote, or an apostrophe.
-fn close_step(s: State, text: &[u8], at: usize) -> Step
-    ensures { result ≡ close_step s (characters_of (drop at text.now)) }
+#[tactic(auto, unfolding(inkprint::specs::Marks::close_step))]
+fn close_step(s: State, rest: &[u8]) -> Step
+    ensures { result ≡ close_step s (characters_of rest.now) }
 {
-    if s.single && !starts_letter(text, at) {
-        return step(three(36, 39, 82), 2, 0, false);
+    if s.single && !starts_letter(rest) {
+        return step(signs(b"$'R"), Line::Filled, Word::Outside, false);
     }
-    sign_step(s, 39, text, at)
+    sign_step(s, b'\'', rest)
 }
 
 // A gap.
-fn gap_step(s: State, text: &[u8], at: usize) -> Step
-    ensures { result ≡ gap_step s (characters_of (drop at text.now)) }
+#[tactic(auto, unfolding(inkprint::specs::Marks::gap_step))]
+fn gap_step(s: State, rest: &[u8]) -> Step
+    ensures { result ≡ gap_step s (characters_of rest.now) }
 {
-    if s.line == 1 || (s.line == 0 && is_blank(text, at)) {
-        return step(nothing(), 1, 0, s.single);
+    match s.line {
+        Line::Filled => step(signs(b" "), Line::Filled, Word::Outside, s.single),
+        Line::Starts if !is_blank(rest) => step(signs(b" "), Line::Filled, Word::Outside, s.single),
+        _ => step(signs(b""), Line::Blank, Word::Outside, s.single),
     }
-    step(one(32), 2, 0, s.single)
 }
 
 // A line's end.
+#[tactic(auto, unfolding(inkprint::specs::Marks::feed_step))]
 fn feed_step(s: State) -> Step
     ensures { result ≡ feed_step s }
 {
-    if s.line == 2 {
-        return step(one(10), 0, 0, s.single);
+    match s.line {
+        Line::Filled => step(signs(b"\n"), Line::Starts, Word::Outside, s.single),
+        _ => step(signs(b"$P"), Line::Starts, Word::Outside, false),
     }
-    step(two(36, 80), 0, 0, false)
 }
 
-// A character of this glyph, before what stands at `at`.
-pub(crate) fn step_of(s: State, g: Glyph, text: &[u8], at: usize) -> Step
-    ensures { result ≡ step_of s g (characters_of (drop at text.now)) }
+// A character of this glyph, before the rest of the text.
+#[tactic(auto, using(inkprint::proofs::Walk::step_small))]
+pub(crate) fn step_of(s: State, g: Glyph, rest: &[u8]) -> Step
+    ensures is { result ≡ step_of s g (characters_of rest.now) }
+    ensures small { Small result.mark }
 {
     match g {
-        Glyph::Letter(letter, capital, accented) => {
-            letter_step(s, letter, capital, accented, text, at)
-        }
-        Glyph::Plain(sign) => sign_step(s, sign, text, at),
-        Glyph::Literal(sign) => step(three(36, 58, sign), 2, 0, s.single),
-        Glyph::Gap => gap_step(s, text, at),
-        Glyph::Nothing => step(nothing(), s.line, 0, s.single),
+        Glyph::Letter(letter, capital, accented) => letter_step(s, letter, capital, accented, rest),
+        Glyph::Plain(sign) => sign_step(s, sign, rest),
+        Glyph::Literal(sign) => step(
+            signs(&[b'$', b':', sign]),
+            Line::Filled,
+            Word::Outside,
+            s.single,
+        ),
+        Glyph::Gap => gap_step(s, rest),
+        Glyph::Nothing => step(signs(b""), s.line, Word::Outside, s.single),
         Glyph::Feed => feed_step(s),
-        Glyph::Page => step(two(36, 78), 2, 0, s.single),
-        Glyph::LongDash => step(two(45, 45), 2, 0, s.single),
-        Glyph::Dots => step(three(46, 46, 46), 2, 0, s.single),
-        Glyph::Opens => step(two(36, 39), 2, 0, true),
-        Glyph::Closes => close_step(s, text, at),
-        Glyph::Unmarked => step(nothing(), s.line, s.word, s.single),
+        Glyph::Page => step(signs(b"$N"), Line::Filled, Word::Outside, s.single),
+        Glyph::LongDash => step(signs(b"--"), Line::Filled, Word::Outside, s.single),
+        Glyph::Dots => step(signs(b"..."), Line::Filled, Word::Outside, s.single),
+        Glyph::Opens => step(signs(b"$'"), Line::Filled, Word::Outside, true),
+        Glyph::Closes => close_step(s, rest),
+        Glyph::Unmarked => step(signs(b""), s.line, s.word, s.single),
     }
 }

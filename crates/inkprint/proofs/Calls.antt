@@ -1,32 +1,34 @@
 -- The call, case by case, and what its answer tells: each refusal is the answer exactly when its reason holds, 0 exactly when none does; a refused call leaves the
 -- output as it was, and a done one has the marked text at its front and leaves what lies beyond. The results are any that the promise of the call allows.
-use Prim.Native.Nat.{ℕ, ◌≤◌, ◌<◌}
+use Prim.Native.Nat.{ℕ, ◌*◌, ◌≤◌, ◌<◌}
 use mathlib.Core.List.{List, ◌++◌}
 use mathlib.Core.Logic.{◌↔◌}
 use mathlib.Core.Path.{◌≡◌, refl, sym, ◌∙◌, ap}
 use native.Mathlib.Decide.{dec_le}
 use native.Mathlib.Nat.{zero-add}
 use native.Mathlib.Omega.{arith}
+use Rattle.std.specs.Prelude.{Ok, Err}
 use lib.ListN.{length, drop, length-append, length-drop}
 use lib.Seq.{sets, sets-eq, take-append_seam, drop-append_seam}
 use borrow.Author.Tests.{lt-ltb, le-ltb, le-leb, lt-leb}
 use Rattle.table.specs.inside.Wrote.{Wrote}
 use Rattle.inkprint.specs.Numbers.{most_ink, number_done, number_long, number_unmarked, number_room}
 use Rattle.inkprint.specs.Marks.{Marking, marked, unmarked, marking}
-use Rattle.inkprint.specs.Calls.{number_of, place_of, written_of, wrote, Outcome, refused, done, roomed, inking}
+use Rattle.inkprint.specs.Calls.{Inked, number_of, place_of, written_of, wrote, Outcome, refused, done, roomed, inking}
 use Rattle.inkprint.specs.Promises.{Inks}
-use Rattle.inkprint.specs.declared.Inked.{Inked}
-use Rattle.inkprint.specs.declared.Inked.TheVariants.{Done, Unmarked, Room, Long}
-use Rattle.inkprint.proofs.Walk.{Comes, same_bytes, never_marked}
+use Rattle.inkprint.specs.declared.Uninked.{Uninked}
+use Rattle.inkprint.specs.declared.Uninked.TheVariants.{Unmarked, Room, Long}
+use Rattle.inkprint.specs.inside.Steps.{walked_to, judged_as}
+use Rattle.inkprint.proofs.Walk.{Comes, same_bytes, never_marked, four_each}
 
 -- ---- The cases of the call
 
 module _ (text out : List ℕ) where
-  ink_long : most_ink < length text → inking text out ≡ refused out Long
+  ink_long : most_ink < length text → inking text out ≡ refused out (Err Long)
   unfolding inking
   ink_long l = rw (lt-ltb most_ink (length text) l, inking)
 
-  ink_unmarked : {at : ℕ} → length text ≤ most_ink → marking text ≡ unmarked at → inking text out ≡ refused out (Unmarked at)
+  ink_unmarked : {at : ℕ} → length text ≤ most_ink → marking text ≡ unmarked at → inking text out ≡ refused out (Err (Unmarked at))
   unfolding inking
   ink_unmarked few e = rw (le-ltb most_ink (length text) few, e, inking)
 
@@ -34,7 +36,7 @@ module _ (text out : List ℕ) where
   unfolding inking
   ink_roomed few e = rw (le-ltb most_ink (length text) few, e, inking)
 
-  ink_room : {bytes : List ℕ} → length text ≤ most_ink → marking text ≡ marked bytes → length out < length bytes → inking text out ≡ refused out (Room (length bytes))
+  ink_room : {bytes : List ℕ} → length text ≤ most_ink → marking text ≡ marked bytes → length out < length bytes → inking text out ≡ refused out (Err (Room (length bytes)))
   unfolding roomed
   ink_room {bytes} few e l = ink_roomed few e ∙ rw (lt-leb (length bytes) (length out) l, roomed)
 
@@ -48,19 +50,19 @@ module _ (text out : List ℕ) where
   unfolding refused
   inks_refused e = record { answers = sym (ap (λ (x : Outcome). x.answer) e); leaves = sym (ap (λ (x : Outcome). x.output) e) }
 
-  pub inks_long : most_ink < length text → Inks text out Long out
+  pub inks_long : most_ink < length text → Inks text out (Err Long) out
   inks_long l = inks_refused (ink_long l)
 
-  pub inks_unmarked : (at : ℕ) → length text ≤ most_ink → marking text ≡ unmarked at → Inks text out (Unmarked at) out
+  pub inks_unmarked : (at : ℕ) → length text ≤ most_ink → marking text ≡ unmarked at → Inks text out (Err (Unmarked at)) out
   inks_unmarked at few e = inks_refused (ink_unmarked few e)
 
   pub inks_room : (needed : ℕ) {bytes : List ℕ} → length text ≤ most_ink → marking text ≡ marked bytes → length bytes ≡ needed → length out < needed
-      → Inks text out (Room needed) out
+      → Inks text out (Err (Room needed)) out
   inks_room needed few e long l = inks_refused (rw long at (ink_room few e (omega arith)))
 
   -- the bytes are written at the front
   pub inks_done : (needed : ℕ) {bytes after : List ℕ} → length text ≤ most_ink → marking text ≡ marked bytes → length bytes ≡ needed → needed ≤ length out
-      → ((written : List ℕ) → marking text ≡ marked written → length written ≤ length out → Wrote out 0 written after) → Inks text out (Done needed) after
+      → ((written : List ℕ) → marking text ≡ marked written → length written ≤ length out → Wrote out 0 written after) → Inks text out (Ok needed) after
   unfolding done
   inks_done needed {bytes} {after} few e long l writes =
       let fits : length bytes ≤ length out = omega arith in
@@ -72,15 +74,63 @@ module _ (text out : List ℕ) where
         leaves = (writes bytes e fits).leaves ∙ front ∙ sym (ap (λ (x : Outcome). x.output) is);
       }
 
+-- ---- What the walk and the judging answer
+
+module _ (text : List ℕ) {out : List ℕ} where
+  -- a character that has no mark
+  pub inks_walked : {why : Uninked} → length text ≤ most_ink → Err why ≡ walked_to (marking text) → Inks text out (Err why) out
+  inks_walked {why} few walked = go (marking text) refl walked
+    where
+      go : (m : Marking) → marking text ≡ m → Err why ≡ walked_to m → Inks text out (Err why) out
+      go (marked bytes) e walked = cc
+      go (unmarked at) e walked = rw walked (inks_unmarked text out at few e)
+
+  pub inks_judged : {why : Uninked} → length text ≤ most_ink → Err why ≡ judged_as (marking text) → Inks text out (Err why) out
+  inks_judged {why} few judged = go (marking text) refl judged
+    where
+      go : (m : Marking) → marking text ≡ m → Err why ≡ judged_as m → Inks text out (Err why) out
+      go (marked bytes) e judged = cc
+      go (unmarked at) e judged = let same : why ≡ Unmarked at = cc in rw same (inks_unmarked text out at few e)
+
+  -- more bytes than there is room for
+  pub inks_short : {needed : ℕ} → length text ≤ most_ink → Ok needed ≡ walked_to (marking text) → length out < needed → Inks text out (Err (Room needed)) out
+  inks_short {needed} few walked short = go (marking text) refl walked
+    where
+      go : (m : Marking) → marking text ≡ m → Ok needed ≡ walked_to m → Inks text out (Err (Room needed)) out
+      go (marked bytes) e walked = let long : length bytes ≡ needed = cc in inks_room text out needed few e long short
+      go (unmarked at) e walked = cc
+
+  module _ {after : List ℕ} {answer : Inked} (few : length text ≤ most_ink) (walked : answer ≡ walked_to (marking text))
+      (writes : (bytes : List ℕ) → marking text ≡ marked bytes → length bytes ≤ length out → Wrote out 0 bytes after) where
+    -- there is room for what was measured
+    pub inks_measured : {needed : ℕ} → Ok needed ≡ walked_to (marking text) → needed ≤ length out → Inks text out answer after
+    inks_measured {needed} measured fits = go (marking text) refl measured
+      where
+        go : (m : Marking) → marking text ≡ m → Ok needed ≡ walked_to m → Inks text out answer after
+        go (marked bytes) e measured =
+            let long : length bytes ≡ needed = cc in
+            rw (walked ∙ ap walked_to e ∙ sym measured) (inks_done text out needed few e long fits writes)
+        go (unmarked at) e measured = cc
+
+    -- there is room for any marked text, and each character has a mark
+    pub inks_judged_fine : Ok tt ≡ judged_as (marking text) → 4 * length text ≤ length out → Inks text out answer after
+    inks_judged_fine judged room = go (marking text) refl judged
+      where
+        go : (m : Marking) → marking text ≡ m → Ok tt ≡ judged_as m → Inks text out answer after
+        go (marked bytes) e judged =
+            let most = four_each text bytes e in
+            rw (walked ∙ ap walked_to e) (inks_done text out (length bytes) few e refl (omega arith) writes)
+        go (unmarked at) e judged = cc
+
 -- ---- Which case it is
 
 -- a call ends in one of four ways
 data Case (text before : List ℕ) (answer : Inked) (after : List ℕ) : Type 0 where
-  too_long : most_ink < length text → answer ≡ Long → after ≡ before → Case text before answer after
-  no_mark : (at : ℕ) → length text ≤ most_ink → marking text ≡ unmarked at → answer ≡ Unmarked at → after ≡ before → Case text before answer after
-  no_room : (bytes : List ℕ) → length text ≤ most_ink → marking text ≡ marked bytes → length before < length bytes → answer ≡ Room (length bytes) → after ≡ before
+  too_long : most_ink < length text → answer ≡ Err Long → after ≡ before → Case text before answer after
+  no_mark : (at : ℕ) → length text ≤ most_ink → marking text ≡ unmarked at → answer ≡ Err (Unmarked at) → after ≡ before → Case text before answer after
+  no_room : (bytes : List ℕ) → length text ≤ most_ink → marking text ≡ marked bytes → length before < length bytes → answer ≡ Err (Room (length bytes)) → after ≡ before
       → Case text before answer after
-  all_done : (bytes : List ℕ) → length text ≤ most_ink → marking text ≡ marked bytes → length bytes ≤ length before → answer ≡ Done (length bytes)
+  all_done : (bytes : List ℕ) → length text ≤ most_ink → marking text ≡ marked bytes → length bytes ≤ length before → answer ≡ Ok (length bytes)
       → after ≡ bytes ++ drop (length bytes) before → Case text before answer after
 
 cases : {text before after : List ℕ} {answer : Inked} → Inks text before answer after → Case text before answer after

@@ -1,18 +1,19 @@
 -- Laws of the characters of a text: a character has one to four bytes and keeps to the text, since past the end there are zeros, which go on with nothing;
 -- so the characters from a place on are the one there and those after it.
-use Prim.Native.Nat.{ℕ, zero, suc, ◌+◌, ◌≤◌, ◌<◌}
-use mathlib.Core.Bool.{Bool, true, false, cond, not, ◌&&◌, ◌||◌, and_assoc}
+use Prim.Native.Nat.{ℕ, ◌-◌, zero, suc, ◌+◌, ◌≤◌, ◌<◌}
+use mathlib.Core.Bool.{Bool, true, false, cond, not, ◌&&◌}
 use mathlib.Core.List.{List, [], ◌∷◌}
-use mathlib.Core.Path.{◌≡◌, refl, sym, ap, ◌∙◌}
+use mathlib.Core.Path.{◌≡◌, refl, ap, ◌∙◌}
 use native.Mathlib.Omega.{arith}
-use borrow.Author.Tests.{leb-true, leb-false, lt-ltb, le-ltb}
+use borrow.Author.Tests.{leb-true, leb-false, lt-ltb}
 use lib.Dec.{leb, ltb}
-use lib.ListN.{length, get_or, drop, length-drop, drop_of_length-le, get_or-eq_default}
-use lib.Seq.{drop-drop, get_or-drop}
+use lib.ListN.{length, take, get_or, drop, length-drop, drop_of_length-le, get_or-eq_default}
+use lib.Seq.{drop-drop, take-length}
 use Rattle.table.specs.Search.{within}
 use Rattle.table.proofs.Tests.{both}
 use Rattle.inkprint.specs.Numbers.{broken}
 use Rattle.inkprint.specs.Characters.{character, goes_on, two_bytes, three_bytes, four_bytes, of_four, of_three, of_two, of_bytes, next_of, characters_from, characters_of}
+use Rattle.inkprint.specs.inside.Steps.{Begins, Ends}
 use Rattle.inkprint.specs.declared.Character.{Character}
 
 -- ---- How many bytes a character has
@@ -134,124 +135,31 @@ characters_more text at l =
     all_more (drop at text) (omega (arith, length-drop at text))
     ∙ ap (λ (bs : List ℕ). next_of (drop at text) ∷ characters_of bs) (drop-drop (next_of (drop at text)).size at text)
 
--- the character at a place keeps to the text
-pub next_fits : (text : List ℕ) (at : ℕ) → at < length text → at + (next_of (drop at text)).size ≤ length text
-next_fits text at l = let e = length-drop at text in omega (arith, next_within (drop at text) (omega arith))
+pub ends_empty : (text : List ℕ) → length text ≡ 0 → Ends text
+unfolding characters_of characters_from
+ends_empty [] e = record { is = refl; none = refl }
+ends_empty (b ∷ bs) e = absurd (omega arith)
 
--- what is said of a character that is the one at a place
-pub next_meets : (text : List ℕ) (at : ℕ) (r : Character) → at < length text → r ≡ next_of (drop at text)
-    → (r ≡ next_of (drop at text)) × (r.size ≤ 4) × (0 < r.size) × (at + r.size ≤ length text)
-next_meets text at r l e =
-    let s : r.size ≡ (next_of (drop at text)).size = ap (λ (x : Character). x.size) e in
-    let z = next_size (drop at text) in
-    let f = next_fits text at l in
-    (e, omega arith, omega arith, omega arith)
+-- the character at the front, by the value that the code has, and the rest after it
+module _ (text : List ℕ) (c : Character) (some : 0 < length text) (is : c ≡ next_of text) where
+  pub front_fits : c.size ≤ length text
+  front_fits = rw is (next_within text some)
 
--- ---- Which character it is, by the tests of the bytes
+  pub front_begins : Begins text c (take (length text - c.size) (drop c.size text))
+  front_begins =
+      let size = next_size text in
+      let fits = front_fits in
+      let left = length-drop c.size text in
+      let all : take (length text - c.size) (drop c.size text) ≡ drop c.size text =
+      rw (← left) (take-length (drop c.size text)) in
+      let e : c.size ≡ (next_of text).size = ap (λ (x : Character). x.size) is in
+      record {
+        first = rw (all, is) (all_more text some);
+        some = omega arith;
+        long = rw (all, left) (omega arith);
+      }
 
-leb_ltb : (a b : ℕ) → leb a b ≡ not (ltb b a)
-leb_ltb a b = go (leb a b) refl
-  where
-    go : (t : Bool) → leb a b ≡ t → leb a b ≡ not (ltb b a)
-    go true e = e ∙ ap not (sym (le-ltb b a (leb-true a b e)))
-    go false e = e ∙ ap not (sym (lt-ltb b a (leb-false a b e)))
-
-neither : (s t : Bool) → not s && not t ≡ not (s || t)
-neither true t = refl
-neither false t = refl
-
-not_below : (least x : ℕ) (t : Bool) → leb least x && not t ≡ not (ltb x least || t)
-not_below least x t = ap (λ (s : Bool). s && not t) (leb_ltb least x) ∙ neither (ltb x least) t
-
-not_outside : (least most x : ℕ) → within least most x ≡ not (ltb x least || ltb most x)
-not_outside least most x = ap (λ (t : Bool). leb least x && t) (leb_ltb x most) ∙ not_below least x (ltb most x)
-
-module _ (a b c d : ℕ) where
-  -- the tests of the bytes of two, of three, of four
-  abbrev pub are_two : Bool
-  are_two = within 194 223 a && goes_on b
-
-  abbrev pub are_three : Bool
-  are_three = within 224 239 a && goes_on b && goes_on c
-
-  abbrev pub are_four : Bool
-  are_four = within 240 244 a && goes_on b && goes_on c && goes_on d
-
-  pub two_low : are_two ≡ true → (192 ≤ a) × (128 ≤ b)
-  two_low e =
-      let p = both (within 194 223 a) (goes_on b) e in
-      let l = leb-true 194 a (both (leb 194 a) (leb a 223) p.0).0 in
-      (omega arith, goes_low b p.1)
-
-  pub three_low : are_three ≡ true → (224 ≤ a) × (128 ≤ b) × (128 ≤ c)
-  three_low e =
-      let p = both (within 224 239 a && goes_on b) (goes_on c) e in
-      let q = both (within 224 239 a) (goes_on b) p.0 in
-      (leb-true 224 a (both (leb 224 a) (leb a 239) q.0).0, goes_low b q.1, goes_low c p.1)
-
-  pub four_low : are_four ≡ true → (240 ≤ a) × (128 ≤ b) × (128 ≤ c) × (128 ≤ d)
-  four_low e =
-      let o = both (within 240 244 a && goes_on b && goes_on c) (goes_on d) e in
-      let p = both (within 240 244 a && goes_on b) (goes_on c) o.0 in
-      let q = both (within 240 244 a) (goes_on b) p.0 in
-      (leb-true 240 a (both (leb 240 a) (leb a 244) q.0).0, goes_low b q.1, goes_low c p.1, goes_low d o.1)
-
-  pub two_is : are_two ≡ true → of_two a b c d ≡ character (two_bytes a b) 2
-  unfolding of_two
-  two_is e = rw e
-
-  pub two_not : are_two ≡ false → of_two a b c d ≡ of_three a b c d
-  unfolding of_two
-  two_not e = rw e
-
-  -- the test of the code that three bytes make
-  abbrev pub three_out : Bool
-  three_out = ltb (three_bytes a b c) 2048 || within 55296 57343 (three_bytes a b c)
-
-  three_tests : are_three && leb 2048 (three_bytes a b c) && not (within 55296 57343 (three_bytes a b c)) ≡ are_three && not three_out
-  three_tests =
-      and_assoc are_three (leb 2048 (three_bytes a b c)) (not (within 55296 57343 (three_bytes a b c)))
-      ∙ ap (λ (t : Bool). are_three && t) (not_below 2048 (three_bytes a b c) (within 55296 57343 (three_bytes a b c)))
-
-  three_cases : of_three a b c d ≡ cond (are_three && not three_out) (character (three_bytes a b c) 3) (of_four a b c d)
-  unfolding of_three
-  three_cases = ap (λ (t : Bool). cond t (character (three_bytes a b c) 3) (of_four a b c d)) three_tests
-
-  pub three_is : are_three ≡ true → three_out ≡ false → of_three a b c d ≡ character (three_bytes a b c) 3
-  three_is e o = three_cases ∙ rw (e, o)
-
-  pub three_out_lem : are_three ≡ true → three_out ≡ true → of_three a b c d ≡ of_four a b c d
-  three_out_lem e o = three_cases ∙ rw (e, o)
-
-  pub three_not : are_three ≡ false → of_three a b c d ≡ of_four a b c d
-  three_not e = three_cases ∙ rw e
-
-  -- the test of the code that four bytes make
-  abbrev pub four_out : Bool
-  four_out = ltb (four_bytes a b c d) 65536 || ltb 1114111 (four_bytes a b c d)
-
-  four_cases : of_four a b c d ≡ cond (are_four && not four_out) (character (four_bytes a b c d) 4) (character broken 1)
-  unfolding of_four
-  four_cases = ap (λ (t : Bool). cond (are_four && t) (character (four_bytes a b c d) 4) (character broken 1)) (not_outside 65536 1114111 (four_bytes a b c d))
-
-  pub four_is : are_four ≡ true → four_out ≡ false → of_four a b c d ≡ character (four_bytes a b c d) 4
-  four_is e o = four_cases ∙ rw (e, o)
-
-  pub four_out_lem : are_four ≡ true → four_out ≡ true → of_four a b c d ≡ character broken 1
-  four_out_lem e o = four_cases ∙ rw (e, o)
-
-  pub four_not : are_four ≡ false → of_four a b c d ≡ character broken 1
-  four_not e = four_cases ∙ rw e
-
-module _ (text : List ℕ) (at : ℕ) where
-  first_at : get_or (drop at text) 0 0 ≡ get_or text at 0
-  first_at = get_or-drop at text 0 0 ∙ ap (λ (n : ℕ). get_or text n 0) (omega arith)
-
-  pub next_one : get_or text at 0 < 128 → next_of (drop at text) ≡ character (get_or text at 0) 1
-  unfolding next_of of_bytes
-  next_one l = rw (first_at, lt-ltb (get_or text at 0) 128 l)
-
-  pub next_more : 128 ≤ get_or text at 0
-      → next_of (drop at text) ≡ of_two (get_or text at 0) (get_or text (at + 1) 0) (get_or text (at + 2) 0) (get_or text (at + 3) 0)
-  unfolding next_of of_bytes
-  next_more l = rw (first_at, le-ltb (get_or text at 0) 128 l, get_or-drop at text 1 0, get_or-drop at text 2 0, get_or-drop at text 3 0)
+-- a byte of ASCII is a character of its own
+pub next_ascii : (text : List ℕ) → get_or text 0 0 < 128 → character (get_or text 0 0) 1 ≡ next_of text
+unfolding next_of of_bytes
+next_ascii text l = rw (lt-ltb (get_or text 0 0) 128 l)

@@ -5,6 +5,7 @@ use mathlib.Core.Bool.{true, false, cond}
 use mathlib.Core.List.{[], ◌∷◌, ◌++◌, map}
 use mathlib.Core.Path.{◌≡◌, refl}
 use lib.Dec.{eqb}
+use Rattle.std.specs.Prelude.{Ok, Err}
 use Rattle.table.specs.Example.{ascii}
 use Rattle.table.specs.Lists.{empty, ◌and◌}
 use Rattle.inkprint.specs.Calls.{number_of, place_of, written_of}
@@ -13,7 +14,7 @@ use Rattle.inkprint.specs.Glyphs.{latin_letters, glyph_of}
 use Rattle.inkprint.specs.Marks.{marked, unmarked, marking, source_of}
 use Rattle.inkprint.specs.Kept.{folded, after, EndsBlank}
 use Rattle.inkprint.specs.declared.Glyph.TheVariants.{Letter, Plain, Gap, Nothing, Feed, Page, LongDash, Dots, Opens, Closes, Unmarked}
-use Rattle.inkprint.specs.declared.Inked.TheVariants as inked
+use Rattle.inkprint.specs.declared.Uninked.TheVariants as uninked
 use Rattle.inkprint.specs.inside.Computing.{computing}
 
 -- capitals: of a word's beginning, of a whole word, after an apostrophe, of one letter
@@ -158,8 +159,8 @@ example_broken = refl
 
 -- the numbers of the answers, the place of a text too long, and what is written
 pub example_answers :
-    (map number_of (inked.Done 5 ∷ inked.Long ∷ inked.Room 5 ∷ inked.Unmarked 5 ∷ []) ≡ 0 ∷ 6 ∷ 8 ∷ 21 ∷ [])
-    × (map place_of (inked.Done 5 ∷ inked.Long ∷ inked.Room 5 ∷ inked.Unmarked 5 ∷ []) ≡ 0 ∷ 1073741824 ∷ 5 ∷ 5 ∷ [])
-    × (map written_of (inked.Done 5 ∷ inked.Long ∷ inked.Room 5 ∷ inked.Unmarked 5 ∷ []) ≡ 5 ∷ 0 ∷ 0 ∷ 0 ∷ [])
+    (map number_of (Ok 5 ∷ Err uninked.Long ∷ Err (uninked.Room 5) ∷ Err (uninked.Unmarked 5) ∷ []) ≡ 0 ∷ 6 ∷ 8 ∷ 21 ∷ [])
+    × (map place_of (Ok 5 ∷ Err uninked.Long ∷ Err (uninked.Room 5) ∷ Err (uninked.Unmarked 5) ∷ []) ≡ 0 ∷ 1073741824 ∷ 5 ∷ 5 ∷ [])
+    × (map written_of (Ok 5 ∷ Err uninked.Long ∷ Err (uninked.Room 5) ∷ Err (uninked.Unmarked 5) ∷ []) ≡ 5 ∷ 0 ∷ 0 ∷ 0 ∷ [])
 unfolding computing
 example_answers = (refl, refl, refl)

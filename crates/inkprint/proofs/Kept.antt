@@ -15,14 +15,16 @@ use Rattle.table.proofs.Tests.{Tells, tells_or, tells_eq, tells_within, both}
 use Rattle.inkprint.specs.Characters.{characters_of}
 use Rattle.inkprint.specs.Glyphs.{latin_letters, is_own_sign, literal_of, latin_glyph, is_gap, is_nothing, is_dash, is_long_dash, typographic, ascii_sign, other_glyph, glyph_of, is_marked}
 use Rattle.inkprint.specs.Numbers.{code_sign, paragraph_code, quote_code, right_code, line_feed, blank, apostrophe}
-use Rattle.inkprint.specs.Marks as signs
-use Rattle.inkprint.specs.Marks.{bytes_of, one, two, three, starts_letter, is_blank, state, step, word_of, capital_signs, letter_mark, letter_step, sign_step, close_step, gap_step, feed_step, step_of, start, marked, unmarked, mark_from, marking}
+use Rattle.inkprint.specs.Marks.{bytes_of, signs, starts_letter, is_blank, state, step, is_filled, stays_blank, word_of, capital_signs, letter_mark, letter_step, sign_step, close_step, gap_step, feed_step, step_of, start, marked, unmarked, mark_from, marking}
 use Rattle.inkprint.specs.Kept.{is_letter_or_digit, letters_and_digits, folded_of, folded_from, folded, own_of, may_add, Part, Parts, none, ◌then◌, joined, owned, NothingLost}
 use Rattle.inkprint.specs.declared.Character.{Character}
 use Rattle.inkprint.specs.declared.Glyph.{Glyph}
 use Rattle.inkprint.specs.declared.Glyph.TheVariants.{Letter, Plain, Literal, Gap, Nothing, Feed, Page, LongDash, Dots, Opens, Closes, Unmarked}
+use Rattle.inkprint.specs.declared.Line.TheVariants.{Starts, Blank, Filled}
 use Rattle.inkprint.specs.declared.State.{State}
 use Rattle.inkprint.specs.declared.Step.{Step}
+use Rattle.inkprint.specs.declared.Word.{Word}
+use Rattle.inkprint.specs.declared.Word.TheVariants.{Outside}
 
 -- ---- What a glyph holds: a letter a capital, a sign a sign
 
@@ -149,24 +151,24 @@ second_added {added = added} may is = record { added = added; adds = rw may (Mem
 third_added : {g : Glyph} {bytes one two added : List ℕ} {more : List (List ℕ)} → may_add g ≡ one ∷ two ∷ added ∷ more → bytes ≡ added ++ own_of g → MarkOf g bytes
 third_added {added = added} may is = record { added = added; adds = rw may (Memᴰ.tail (Memᴰ.tail (Memᴰ.head refl))); is = is }
 
-letter_part : (l : ℕ) (c a : Bool) (signs : ℕ) → (c ≡ false → signs ≡ 0) → MarkOf (Letter l c a) (bytes_of (letter_mark signs a l))
+letter_part : (l : ℕ) (c a : Bool) (capitals : ℕ) → (c ≡ false → capitals ≡ 0) → MarkOf (Letter l c a) (bytes_of (letter_mark capitals a l))
 unfolding letter_mark bytes_of
-letter_part l false false signs h = rw (h refl) (first_added refl refl)
-letter_part l false true signs h = rw (h refl) (first_added refl refl)
-letter_part l true false signs h = go (eqb signs 0) (eqb signs 1)
+letter_part l false false capitals h = rw (h refl) (first_added refl refl)
+letter_part l false true capitals h = rw (h refl) (first_added refl refl)
+letter_part l true false capitals h = go (eqb capitals 0) (eqb capitals 1)
   where
-    go : (none one : Bool) → MarkOf (Letter l true false) (bytes_of (cond none (record { count = 1; a = l; b = 0; c = 0; d = 0 }) (cond one (record { count = 2; a = 61; b = l; c = 0; d = 0 }) (record { count = 3; a = 61; b = 61; c = l; d = 0 }))))
+    go : (none one : Bool) → MarkOf (Letter l true false) (bytes_of (cond none (signs (l ∷ [])) (cond one (signs (61 ∷ l ∷ [])) (signs (61 ∷ 61 ∷ l ∷ [])))))
     go true one = first_added refl refl
     go false true = second_added refl refl
     go false false = third_added refl refl
-letter_part l true true signs h = go (eqb signs 0) (eqb signs 1)
+letter_part l true true capitals h = go (eqb capitals 0) (eqb capitals 1)
   where
-    go : (none one : Bool) → MarkOf (Letter l true true) (bytes_of (cond none (record { count = 2; a = 37; b = l; c = 0; d = 0 }) (cond one (record { count = 3; a = 61; b = 37; c = l; d = 0 }) (record { count = 4; a = 61; b = 61; c = 37; d = l }))))
+    go : (none one : Bool) → MarkOf (Letter l true true) (bytes_of (cond none (signs (37 ∷ l ∷ [])) (cond one (signs (61 ∷ 37 ∷ l ∷ [])) (signs (61 ∷ 61 ∷ 37 ∷ l ∷ [])))))
     go true one = first_added refl refl
     go false true = second_added refl refl
     go false false = third_added refl refl
 
-no_signs : (s : State) (c : Bool) (word : ℕ) → c ≡ false → capital_signs s c word ≡ 0
+no_signs : (s : State) (c : Bool) (word : Word) → c ≡ false → capital_signs s c word ≡ 0
 unfolding capital_signs
 no_signs s c word e = rw e
 
@@ -176,16 +178,16 @@ step_part s (Letter l c a) rest e = letter_part l c a (capital_signs s c (word_o
 step_part s (Plain c) rest e = first_added refl refl
 step_part s (Literal c) rest e = first_added refl refl
 step_part s Gap rest e =
-    if_mark (eqb s.line 1 || (eqb s.line 0 && is_blank rest)) (step signs.none (state 1 0 s.single)) (step (one blank) (state 2 0 s.single)) (first_added refl refl) (second_added refl refl)
+    if_mark (stays_blank s.line (is_blank rest)) (step (signs []) (state Blank Outside s.single)) (step (signs (blank ∷ [])) (state Filled Outside s.single)) (first_added refl refl) (second_added refl refl)
 step_part s Nothing rest e = first_added refl refl
 step_part s Feed rest e =
-    if_mark (eqb s.line 2) (step (one line_feed) (state 0 0 s.single)) (step (two code_sign paragraph_code) start) (first_added refl refl) (second_added refl refl)
+    if_mark (is_filled s.line) (step (signs (line_feed ∷ [])) (state Starts Outside s.single)) (step (signs (code_sign ∷ paragraph_code ∷ [])) start) (first_added refl refl) (second_added refl refl)
 step_part s Page rest e = first_added refl refl
 step_part s LongDash rest e = first_added refl refl
 step_part s Dots rest e = first_added refl refl
 step_part s Opens rest e = first_added refl refl
 step_part s Closes rest e =
-    if_mark (s.single && not (starts_letter rest)) (step (three code_sign quote_code right_code) (state 2 0 false)) (sign_step s apostrophe rest) (second_added refl refl) (first_added refl refl)
+    if_mark (s.single && not (starts_letter rest)) (step (signs (code_sign ∷ quote_code ∷ right_code ∷ [])) (state Filled Outside false)) (sign_step s apostrophe rest) (second_added refl refl) (first_added refl refl)
 step_part s Unmarked rest e = absurd (false≢true e)
 
 -- ---- The marked text is made of the parts
@@ -221,7 +223,7 @@ marked_parts s at sofar (c ∷ cs) bytes e =
           each = record { adds = part.adds; keeps = refl } then rest.each;
           joins = sym (append_assoc sofar (part.added ++ own_of (glyph_of c.code)) (joined rest.parts)) ∙ (rw part.is at rest.joins);
         }
-    go false m e later = absurd (let z : ◌≡◌ {A = ℕ} 0 1 = cc in omega arith)
+    go false m e later = cc
 
 -- ---- The letters and digits that are kept
 

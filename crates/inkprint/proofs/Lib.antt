@@ -1,7 +1,4 @@
 pub mod Characters
-pub mod Glyphs
-pub mod ComesNext
-pub mod Steps
 pub mod Walk
 pub mod Kept
 pub mod Plain

@@ -6,20 +6,21 @@ use mathlib.Core.List.{List, [], ◌∷◌, ◌++◌, append_assoc, append-nil}
 use mathlib.Core.Logic.{◌⊎◌, inl, inr}
 use mathlib.Core.Path.{◌≡◌, refl, sym, ◌∙◌, ap}
 use native.Mathlib.Omega.{arith}
-use lib.Dec.{ltb, eqb}
+use lib.Dec.{ltb}
 use lib.ListN.{length, get_or, drop, length-drop}
 use lib.Seq.{drop-append-le}
 use Rattle.table.specs.Lists.{All, empty, ◌and◌}
 use Rattle.inkprint.specs.Numbers.{broken, line_feed, code_sign, paragraph_code}
 use Rattle.inkprint.specs.Characters.{character, goes_on, of_four, of_three, of_two, of_bytes, next_of, characters_from, characters_of}
 use Rattle.inkprint.specs.Glyphs.{is_gap, other_glyph, glyph_of, is_marked, is_letter, is_capital, is_apostrophe}
-use Rattle.inkprint.specs.Marks as signs
-use Rattle.inkprint.specs.Marks.{bytes_of, starts_letter, starts_capital, capital_next, capitals_on, all_capitals, is_blank, state, start, step, word_of, letter_step, sign_step, close_step, gap_step, feed_step, step_of, Marking, marked, unmarked, mark_from, marking}
+use Rattle.inkprint.specs.Marks.{bytes_of, signs, is_filled, starts_letter, starts_capital, capital_next, capitals_on, all_capitals, is_blank, state, start, step, word_of, letter_step, sign_step, close_step, gap_step, feed_step, step_of, Marking, marked, unmarked, mark_from, marking}
 use Rattle.inkprint.specs.Kept.{is_empty, LineStarts, first, after, EndsBlank, Pieces, last, before}
 use Rattle.inkprint.specs.declared.Character.{Character}
 use Rattle.inkprint.specs.declared.Glyph.{Glyph}
 use Rattle.inkprint.specs.declared.Glyph.TheVariants.{Letter, Plain, Literal, Gap, Nothing, Feed, Page, LongDash, Dots, Opens, Closes, Unmarked}
+use Rattle.inkprint.specs.declared.Line.TheVariants.{Starts, Blank}
 use Rattle.inkprint.specs.declared.State.{State}
+use Rattle.inkprint.specs.declared.Word.TheVariants.{Outside}
 use Rattle.inkprint.proofs.Characters.{next_size, next_within, characters_more}
 use Rattle.inkprint.proofs.Kept.{mark_step}
 
@@ -155,13 +156,13 @@ data Through (from : List Character → Marking) (reaches : State → Type 0) : 
   through : (s : State) (at : ℕ) (sofar : List ℕ) → reaches s → ((ds : List Character) → from ds ≡ mark_from s at sofar ds) → Through from reaches
 
 abbrev LineZero : State → Type 0
-LineZero s = s.line ≡ 0
+LineZero s = s.line ≡ Starts
 
 feed_zero : (s : State) → LineZero (feed_step s).next
 unfolding feed_step
-feed_zero s = go (eqb s.line 2)
+feed_zero s = go (is_filled s.line)
   where
-    go : (t : Bool) → LineZero (cond t (step (signs.one line_feed) (state 0 0 s.single)) (step (signs.two code_sign paragraph_code) start)).next
+    go : (t : Bool) → LineZero (cond t (step (signs (line_feed ∷ [])) (state Starts Outside s.single)) (step (signs (code_sign ∷ paragraph_code ∷ [])) start)).next
     go true = refl
     go false = refl
 
@@ -211,14 +212,14 @@ empties_blank ds (◌and◌ {x = c} {xs = gs} e es) = go (glyph_of c.code) e (em
 
 -- nothing has been marked in the line so far
 abbrev LineOpen : State → Type 0
-LineOpen s = (s.line ≡ 0) ⊎ (s.line ≡ 1)
+LineOpen s = (s.line ≡ Starts) ⊎ (s.line ≡ Blank)
 
-gap_blank : (s : State) (rest : List Character) → LineOpen s → is_blank rest ≡ true → gap_step s rest ≡ step signs.none (state 1 0 s.single)
+gap_blank : (s : State) (rest : List Character) → LineOpen s → is_blank rest ≡ true → gap_step s rest ≡ step (signs []) (state Blank Outside s.single)
 unfolding gap_step
 gap_blank s rest (inl z) b = rw (z, b)
 gap_blank s rest (inr z) b = rw z
 
-feed_blank : (s : State) → LineOpen s → feed_step s ≡ step (signs.two code_sign paragraph_code) start
+feed_blank : (s : State) → LineOpen s → feed_step s ≡ step (signs (code_sign ∷ paragraph_code ∷ [])) start
 unfolding feed_step
 feed_blank s (inl z) = rw z
 feed_blank s (inr z) = rw z
@@ -233,11 +234,11 @@ through_blank : (s : State) (at : ℕ) (sofar : List ℕ) {gs : List Character} 
 unfolding mark_from bytes_of
 through_blank s at sofar empty z = record { at = at + 1; is = λ ds. feed_mark s at sofar ds ∙ rw (feed_blank s z) }
 through_blank s at sofar (◌and◌ {x = c} {xs = gs} e es) z =
-    go (glyph_of c.code) refl e (through_blank (state 1 0 s.single) (at + c.size) sofar es (inr refl)) (through_blank (state s.line 0 s.single) (at + c.size) sofar es z)
+    go (glyph_of c.code) refl e (through_blank (state Blank Outside s.single) (at + c.size) sofar es (inr refl)) (through_blank (state s.line Outside s.single) (at + c.size) sofar es z)
   where
     go : (g : Glyph) → glyph_of c.code ≡ g → is_empty g ≡ true
-        → BlankLine sofar (λ (ds : List Character). mark_from (state 1 0 s.single) (at + c.size) sofar (gs ++ feed ∷ ds))
-        → BlankLine sofar (λ (ds : List Character). mark_from (state s.line 0 s.single) (at + c.size) sofar (gs ++ feed ∷ ds))
+        → BlankLine sofar (λ (ds : List Character). mark_from (state Blank Outside s.single) (at + c.size) sofar (gs ++ feed ∷ ds))
+        → BlankLine sofar (λ (ds : List Character). mark_from (state s.line Outside s.single) (at + c.size) sofar (gs ++ feed ∷ ds))
         → BlankLine sofar (λ (ds : List Character). mark_from s at sofar (c ∷ gs ++ feed ∷ ds))
     go Gap g e known later = record {
       at = known.at;
@@ -312,7 +313,7 @@ marked_more s at there front sofar (c ∷ cs) bytes e =
         → (mark_from next (at + c.size) (sofar ++ mark) cs ≡ marked bytes → mark_from next (there + c.size) (front ++ (sofar ++ mark)) cs ≡ marked (front ++ bytes))
         → elim t [ true ↦ mark_from next (there + c.size) (front ++ sofar ++ mark) cs | false ↦ unmarked there ] ≡ marked (front ++ bytes)
     go true e later = rw (append_assoc front sofar mark) (later e)
-    go false e later = absurd (let z : ◌≡◌ {A = ℕ} 0 1 = cc in omega arith)
+    go false e later = cc
 
 -- ---- In two pieces, and in any number
 
@@ -323,7 +324,7 @@ marked_in_parts text rest bytes more ends m n = rw ends.is (go (piece_of ends.fr
   where
     go : {piece : List ℕ} → Piece piece → marking piece ≡ marked bytes → marking (piece ++ rest) ≡ marked (bytes ++ more)
     go {piece} (wrong p h) m =
-        absurd (let e : marking (piece ++ []) ≡ unmarked p = h [] in let f = append-nil piece in let z : ◌≡◌ {A = ℕ} 0 1 = cc in omega arith)
+        absurd (let e : marking (piece ++ []) ≡ unmarked p = h [] in let f = append-nil piece in cc)
     go {piece} (right at sofar h) m =
         let e : marking (piece ++ []) ≡ marked sofar = h [] in
         let f = append-nil piece in

@@ -2,8 +2,9 @@
 use Prim.Native.Nat.{ℕ}
 use mathlib.Core.List.{List}
 use mathlib.Core.Path.{◌≡◌, sym, ◌∙◌}
-use Rattle.inkprint.specs.Promises.{Inks, Sources, Tells}
-use Rattle.inkprint.specs.declared.Inked.{Inked}
+use Rattle.table.specs.Promises.{Tells}
+use Rattle.inkprint.specs.Promises.{Inks, Sources}
+use Rattle.inkprint.specs.Calls.{Inked}
 
 pub mark_determined : {text before : List ℕ} {a b : Inked} {x y : List ℕ} → Inks text before a x → Inks text before b y → (a ≡ b) × (x ≡ y)
 mark_determined p q = (p.answers ∙ sym q.answers, p.leaves ∙ sym q.leaves)
@@ -11,6 +12,6 @@ mark_determined p q = (p.answers ∙ sym q.answers, p.leaves ∙ sym q.leaves)
 pub source_determined : {text : List ℕ} {n a b : ℕ} → Sources text n a → Sources text n b → a ≡ b
 source_determined p q = p.is ∙ sym q.is
 
--- `Inked::number`, `place`, `written`
+-- the three values of an answer
 pub value_determined : {value : Inked → ℕ} {inked : Inked} {a b : ℕ} → Tells value inked a → Tells value inked b → a ≡ b
 value_determined p q = p.is ∙ sym q.is

@@ -1,35 +1,27 @@
 -- How inkprint is marked, character by character: a capital, an accent, a quote, a dash, the end of a line, a blank line. What a rule looks at past its own
 -- character is the rest of the line at most.
-use Rattle.std.specs.Prelude.{ℕ, ◌+◌, ◌-◌, Bool, true, false, cond, not, ◌&&◌, ◌||◌, List, [], ◌∷◌, ◌++◌, ltb, eqb, take}
+use Rattle.std.specs.Prelude.{ℕ, ◌+◌, ◌-◌, Bool, true, false, cond, not, ◌&&◌, List, [], ◌∷◌, ◌++◌, ltb, eqb, length, take}
 use Rattle.inkprint.specs.Numbers.{capital_sign, accent_sign, code_sign, paragraph_code, page_code, quote_code, right_code, literal_code, line_feed, blank, apostrophe, hyphen, period}
 use Rattle.inkprint.specs.Characters.{characters_of}
 use Rattle.inkprint.specs.Glyphs.{glyph_of, is_marked, is_letter, is_capital, is_apostrophe}
 use Rattle.inkprint.specs.declared.Character.{Character}
 use Rattle.inkprint.specs.declared.Glyph.{Glyph}
 use Rattle.inkprint.specs.declared.Glyph.TheVariants.{Letter, Plain, Literal, Gap, Nothing, Feed, Page, LongDash, Dots, Opens, Closes, Unmarked}
+use Rattle.inkprint.specs.declared.Line.{Line}
+use Rattle.inkprint.specs.declared.Line.TheVariants.{Starts, Blank, Filled}
 use Rattle.inkprint.specs.declared.Signs.{Signs}
 use Rattle.inkprint.specs.declared.State.{State}
 use Rattle.inkprint.specs.declared.Step.{Step}
+use Rattle.inkprint.specs.declared.Word.{Word}
+use Rattle.inkprint.specs.declared.Word.TheVariants.{Outside, Capitals, Mixed}
 
 -- ---- A mark is at most four bytes
 
 unfoldable pub bytes_of : Signs → List ℕ
-bytes_of m = take m.count (m.a ∷ m.b ∷ m.c ∷ m.d ∷ [])
+bytes_of m = take m.count m.bytes
 
-abbrev pub none : Signs
-none = record { count = 0; a = 0; b = 0; c = 0; d = 0 }
-
-abbrev pub one : ℕ → Signs
-one a = record { count = 1; a = a; b = 0; c = 0; d = 0 }
-
-abbrev pub two : ℕ → ℕ → Signs
-two a b = record { count = 2; a = a; b = b; c = 0; d = 0 }
-
-abbrev pub three : ℕ → ℕ → ℕ → Signs
-three a b c = record { count = 3; a = a; b = b; c = c; d = 0 }
-
-abbrev pub four : ℕ → ℕ → ℕ → ℕ → Signs
-four a b c d = record { count = 4; a = a; b = b; c = c; d = d }
+abbrev pub signs : List ℕ → Signs
+signs bytes = record { count = length bytes; bytes = take 4 (bytes ++ 0 ∷ 0 ∷ 0 ∷ 0 ∷ []) }
 
 -- ---- What comes next
 
@@ -78,75 +70,101 @@ is_blank (c ∷ cs) =
       | Unmarked ↦ false
     ]
 
--- ---- The state: of the line 0 where it starts, 1 where it is known to be blank, 2 where it has something; of the word 0 where there is none, 1 in one of
--- capitals alone, 2 in another; and whether a single quote is open
+-- ---- The state: whether the line starts here, is known to be blank, or has something; whether a word stands here, one of capitals alone or another; and
+-- whether a single quote is open
 
-abbrev pub state : ℕ → ℕ → Bool → State
+abbrev pub state : Line → Word → Bool → State
 state l w s = record { line = l; word = w; single = s }
 
 abbrev pub start : State
-start = state 0 0 false
+start = state Starts Outside false
 
 abbrev pub step : Signs → State → Step
 step m s = record { mark = m; next = s }
 
+abbrev pub is_filled : Line → Bool
+is_filled Starts = false
+is_filled Blank = false
+is_filled Filled = true
+
+-- whether the line is blank, where its rest may be
+abbrev pub stays_blank : Line → Bool → Bool
+stays_blank Starts rest = rest
+stays_blank Blank rest = true
+stays_blank Filled rest = false
+
+abbrev pub is_outside : Word → Bool
+is_outside Outside = true
+is_outside Capitals = false
+is_outside Mixed = false
+
+abbrev pub is_capitals : Word → Bool
+is_capitals Outside = false
+is_capitals Capitals = true
+is_capitals Mixed = false
+
 -- ---- A letter: = before a capital, == before a word of capitals alone, % before an accented one
 
 -- which kind of word it stands in
-unfoldable pub word_of : State → Bool → List Character → ℕ
-word_of s capital rest = cond (eqb s.word 0) (cond (capital && all_capitals rest) 1 2) s.word
+unfoldable pub word_of : State → Bool → List Character → Word
+word_of s capital rest = cond (is_outside s.word) (cond (capital && all_capitals rest) Capitals Mixed) s.word
 
 -- how many signs of a capital stand before it
-unfoldable pub capital_signs : State → Bool → ℕ → ℕ
-capital_signs s capital word = cond capital (cond (eqb word 1) (cond (eqb s.word 0) 2 0) 1) 0
+unfoldable pub capital_signs : State → Bool → Word → ℕ
+capital_signs s capital word = cond capital (cond (is_capitals word) (cond (is_outside s.word) 2 0) 1) 0
 
 unfoldable pub letter_mark : ℕ → Bool → ℕ → Signs
-letter_mark signs accented letter =
+letter_mark capitals accented letter =
     cond accented
-    (cond (eqb signs 0) (two accent_sign letter) (cond (eqb signs 1) (three capital_sign accent_sign letter) (four capital_sign capital_sign accent_sign letter)))
-    (cond (eqb signs 0) (one letter) (cond (eqb signs 1) (two capital_sign letter) (three capital_sign capital_sign letter)))
+    (cond (eqb capitals 0) (signs (accent_sign ∷ letter ∷ []))
+    (cond (eqb capitals 1) (signs (capital_sign ∷ accent_sign ∷ letter ∷ [])) (signs (capital_sign ∷ capital_sign ∷ accent_sign ∷ letter ∷ []))))
+    (cond (eqb capitals 0) (signs (letter ∷ []))
+    (cond (eqb capitals 1) (signs (capital_sign ∷ letter ∷ [])) (signs (capital_sign ∷ capital_sign ∷ letter ∷ []))))
 
 unfoldable pub letter_step : State → ℕ → Bool → Bool → List Character → Step
 letter_step s letter capital accented rest =
-    step (letter_mark (capital_signs s capital (word_of s capital rest)) accented letter) (state 2 (word_of s capital rest) s.single)
+    step (letter_mark (capital_signs s capital (word_of s capital rest)) accented letter) (state Filled (word_of s capital rest) s.single)
 
 -- ---- A sign that stands for itself. An apostrophe before a capital goes on with its word
 
 unfoldable pub sign_step : State → ℕ → List Character → Step
-sign_step s sign rest = step (one sign) (state 2 (cond (eqb sign apostrophe && starts_capital rest) s.word 0) s.single)
+sign_step s sign rest = step (signs (sign ∷ [])) (state Filled (cond (eqb sign apostrophe && starts_capital rest) s.word Outside) s.single)
 
 -- ---- A right single quote is an apostrophe before a letter, and where none is open
 
 unfoldable pub close_step : State → List Character → Step
 close_step s rest =
-    cond (s.single && not (starts_letter rest)) (step (three code_sign quote_code right_code) (state 2 0 false)) (sign_step s apostrophe rest)
+    cond (s.single && not (starts_letter rest)) (step (signs (code_sign ∷ quote_code ∷ right_code ∷ [])) (state Filled Outside false))
+    (sign_step s apostrophe rest)
 
 -- ---- A gap, nothing in a blank line
 
 unfoldable pub gap_step : State → List Character → Step
 gap_step s rest =
-    cond (eqb s.line 1 || (eqb s.line 0 && is_blank rest)) (step none (state 1 0 s.single)) (step (one blank) (state 2 0 s.single))
+    cond (stays_blank s.line (is_blank rest)) (step (signs []) (state Blank Outside s.single))
+    (step (signs (blank ∷ [])) (state Filled Outside s.single))
 
 -- ---- A line's end: $P where the line is blank, and then all begins anew
 
 unfoldable pub feed_step : State → Step
-feed_step s = cond (eqb s.line 2) (step (one line_feed) (state 0 0 s.single)) (step (two code_sign paragraph_code) start)
+feed_step s =
+    cond (is_filled s.line) (step (signs (line_feed ∷ [])) (state Starts Outside s.single)) (step (signs (code_sign ∷ paragraph_code ∷ [])) start)
 
 -- ---- Any character. `rest` is what follows it
 
 abbrev pub step_of : State → Glyph → List Character → Step
 step_of s (Letter l c a) rest = letter_step s l c a rest
 step_of s (Plain c) rest = sign_step s c rest
-step_of s (Literal c) rest = step (three code_sign literal_code c) (state 2 0 s.single)
+step_of s (Literal c) rest = step (signs (code_sign ∷ literal_code ∷ c ∷ [])) (state Filled Outside s.single)
 step_of s Gap rest = gap_step s rest
-step_of s Nothing rest = step none (state s.line 0 s.single)
+step_of s Nothing rest = step (signs []) (state s.line Outside s.single)
 step_of s Feed rest = feed_step s
-step_of s Page rest = step (two code_sign page_code) (state 2 0 s.single)
-step_of s LongDash rest = step (two hyphen hyphen) (state 2 0 s.single)
-step_of s Dots rest = step (three period period period) (state 2 0 s.single)
-step_of s Opens rest = step (two code_sign quote_code) (state 2 0 true)
+step_of s Page rest = step (signs (code_sign ∷ page_code ∷ [])) (state Filled Outside s.single)
+step_of s LongDash rest = step (signs (hyphen ∷ hyphen ∷ [])) (state Filled Outside s.single)
+step_of s Dots rest = step (signs (period ∷ period ∷ period ∷ [])) (state Filled Outside s.single)
+step_of s Opens rest = step (signs (code_sign ∷ quote_code ∷ [])) (state Filled Outside true)
 step_of s Closes rest = close_step s rest
-step_of s Unmarked rest = step none s
+step_of s Unmarked rest = step (signs []) s
 
 -- ---- The whole text: its marked text, or the place of the first character that has no mark
 

@@ -2,8 +2,7 @@
 -- results that a promise allows are equal.
 use Rattle.std.specs.Prelude.{ℕ, List, ◌≡◌}
 use Rattle.inkprint.specs.Marks.{source_of}
-use Rattle.inkprint.specs.Calls.{inking}
-use Rattle.inkprint.specs.declared.Inked.{Inked}
+use Rattle.inkprint.specs.Calls.{Inked, inking}
 
 -- `mark`: the answer of the definitions, and their output in the bytes that were lent
 pub record Inks (text before : List ℕ) (answer : Inked) (after : List ℕ) : Type 0 where
@@ -13,7 +12,3 @@ pub record Inks (text before : List ℕ) (answer : Inked) (after : List ℕ) : T
 -- `source`: the place in the ink text of the character that byte `n` of the marked text comes from
 pub record Sources (text : List ℕ) (n answer : ℕ) : Type 0 where
   pub is : answer ≡ source_of text n
-
--- `Inked::number`, `place`, `written`: each tells its value
-pub record Tells (value : Inked → ℕ) (a : Inked) (answer : ℕ) : Type 0 where
-  pub is : answer ≡ value a

@@ -2,14 +2,14 @@
 // sign before those that were capitals and before accented ones, typographic signs by the
 // conventions, a code for each blank line. What each type and call means is said in specs/, and for
 // an editor in docs/ENGLISH.md; here are the types that the definitions and the calls share. The
-// calls themselves are in marks.
+// calls themselves are in ink.
 
 #![tactic(auto)]
 
 mod answering;
 
 // A character of the text: its code, and how many bytes it has.
-#[derive(Clone, Copy)]
+#[derive(Clone, Copy, Debug, PartialEq, Eq)]
 pub struct Character {
     pub code: u32,
     pub size: usize,
@@ -19,7 +19,7 @@ pub struct Character {
 // a sign, itself or as the convention has it; a sign of the convention's own, with what stands after
 // the code sign; a gap, nothing, a line's end, a page's end, a long dash, three dots, a left single
 // quote, a right one; or none that has a mark.
-#[derive(Clone, Copy)]
+#[derive(Clone, Copy, Debug, PartialEq, Eq)]
 pub enum Glyph {
     Letter(u8, bool, bool),
     Plain(u8),
@@ -35,50 +35,49 @@ pub enum Glyph {
     Unmarked,
 }
 
-// The bytes that a character becomes, at most four.
-#[derive(Clone, Copy)]
+// The bytes that a character becomes, at most four: as many of these as are counted. Kept: an array and
+// a count. There is no heap for a Vec, and no text that lasts for a slice of it to be lent.
+#[derive(Clone, Copy, Debug, PartialEq, Eq)]
 pub struct Signs {
     pub count: usize,
-    pub a: u8,
-    pub b: u8,
-    pub c: u8,
-    pub d: u8,
+    pub bytes: [u8; 4],
+}
+
+// Of the line: it starts here, it is known to be blank, or it has something.
+#[derive(Clone, Copy, Debug, PartialEq, Eq)]
+pub enum Line {
+    Starts,
+    Blank,
+    Filled,
+}
+
+// Of the word: there is none, it is of capitals alone, or it is another.
+#[derive(Clone, Copy, Debug, PartialEq, Eq)]
+pub enum Word {
+    Outside,
+    Capitals,
+    Mixed,
 }
 
 // Where the marking stands: in the line, in the word, and whether a single quote is open.
-#[derive(Clone, Copy)]
+#[derive(Clone, Copy, Debug, PartialEq, Eq)]
 pub struct State {
-    pub line: u8,
-    pub word: u8,
+    pub line: Line,
+    pub word: Word,
     pub single: bool,
 }
 
 // A character's mark, and the state after it.
-#[derive(Clone, Copy)]
+#[derive(Clone, Copy, Debug, PartialEq, Eq)]
 pub struct Step {
     pub mark: Signs,
     pub next: State,
 }
 
-// What the whole text comes to: the bytes of its marked text, or the place of the first character
-// that has no mark.
-#[derive(Clone, Copy)]
-pub enum Walked {
-    To(usize),
-    Wrong(usize),
-}
-
-// Whether each character has a mark, or the place of the first that has none.
-#[derive(Clone, Copy)]
-pub enum Judged {
-    Fine,
-    Wrong(usize),
-}
-
-// What `mark` answers.
-#[derive(Clone, Copy)]
-pub enum Inked {
-    Done { written: usize },
+// Why `mark` refuses: a character that has no mark, at its place; an output too short for so many
+// bytes; a text too long.
+#[derive(Clone, Copy, Debug, PartialEq, Eq)]
+pub enum Uninked {
     Unmarked(usize),
     Room(usize),
     Long,

@@ -3,7 +3,7 @@ use Prim.Native.Nat.{ℕ}
 use mathlib.Core.List.{List}
 use mathlib.Core.Path.{◌≡◌, sym, ◌∙◌}
 use denote.Ref.{Bor}
-use Rattle.table.specs.declared.Verdict.{Verdict}
+use Rattle.table.specs.Answers.{Verdict}
 use Rattle.framing.proofs.Promises.{locate_determined}
 use Rattle.judge.specs.Promises.{Checked, Reads, ReaderVerdict}
 use Rattle.judge.specs.declared.Reader.{Reader}

@@ -1,57 +1,61 @@
 -- The verdict, check by check, as the code goes: what each of its answers makes of the verdict.
-use Prim.Native.Nat.{ℕ, ◌+◌}
-use mathlib.Core.Bool.{Bool, true, false}
-use mathlib.Core.List.{List}
-use mathlib.Core.Option.{Option, none, some}
-use mathlib.Core.Path.{◌≡◌, refl}
+use Rattle.std.proofs.Common.{ℕ, List, Bool, true, false, Some, None, Ok, Err, ◌≡◌, ◌∙◌, refl, sym, ap}
+use Rattle.std.proofs.Math.Option as maybe
 use Rattle.table.specs.Numbers.{blank}
 use Rattle.table.specs.Search.{member}
-use Rattle.table.specs.Sections.{offset}
-use Rattle.table.specs.Records.{symbols, section_named, name_at, first_wrong}
-use Rattle.table.specs.Records as found_wrong
-use Rattle.table.specs.Table.{table_in}
-use Rattle.table.specs.Grouping.{first_break}
-use Rattle.table.specs.Verdict.{refusal_in, strings, grouping_verdict, blank_verdict, records_verdict}
-use Rattle.table.specs.inside.Found.{found}
+use Rattle.table.specs.Records.{symbols, first_wrong, Wrong}
+use Rattle.table.specs.Verdict.{grouping_verdict, blank_verdict, records_verdict, verdict_of}
+use Rattle.table.specs.Answers.{Verdict}
 use Rattle.table.specs.declared.Sections.{Sections}
-use Rattle.table.specs.declared.Refusal.TheVariants as why
-use Rattle.table.specs.declared.Verdict.{Verdict}
-use Rattle.table.specs.declared.Verdict.TheVariants.{Accepted, Refused}
-use Rattle.table.specs.declared.Found.TheVariants.{At as FoundAt, Nothing}
-use Rattle.table.proofs.Search.{found_at, found_nothing}
-use Rattle.table.proofs.SectionOrder.{named_by_number}
-use Rattle.records.specs.Judged.{blank_judged, records_judged}
-use Rattle.records.specs.declared.Judged.{Judged}
-use Rattle.records.specs.declared.Judged.TheVariants.{Wrong, NoBlank, Right}
+use Rattle.table.specs.declared.Refusal.TheVariants.{Frame}
+use Rattle.table.proofs.Frame.{sections_framed}
+use Rattle.framing.specs.Promises.{Framed}
+use Rattle.framing.proofs.Frames.{framed_located, framed_right, framed_wrong}
+use Rattle.records.specs.Judged.{Judged, blank_judged, records_judged}
+use Rattle.records.specs.Promises.{RecordsJudged}
+use Rattle.records.specs.declared.Fault.{Fault}
+use Rattle.judge.specs.inside.Faults.{refusal_of}
 
-module _ (image : List ℕ) (s : Sections) where
+module _ (image : List ℕ) where
+  -- ---- The frame
+
+  pub frame_refused : Framed image None → verdict_of image ≡ Err Frame
+  unfolding verdict_of
+  frame_refused f = rw (framed_wrong image f, verdict_of)
+
   -- ---- The records and the blank
 
-  -- what each answer about the records makes of the verdict
-  abbrev pub verdict_by : Judged → Verdict
-  verdict_by (Wrong i k j) = Refused (refusal_in (name_at i) (offset (section_named s (name_at i)) k + j))
-  verdict_by NoBlank = Refused why.NoBlank
-  verdict_by Right = grouping_verdict image s
+  module _ (s : Sections) where
+    -- what each answer about the records makes of the verdict
+    verdict_by : Judged → Verdict
+    verdict_by (Ok right) = grouping_verdict image s
+    verdict_by (Err fault) = Err (refusal_of s fault)
 
-  pub verdict_by_lem : records_verdict image s ≡ verdict_by (records_judged image s)
-  unfolding records_verdict blank_verdict records_judged blank_judged
-  verdict_by_lem = go (first_wrong image s) refl
-    where
-      blanks : (b : Bool) → member blank (symbols image s) ≡ b → blank_verdict image s ≡ verdict_by (blank_judged image s)
-      blanks true e = rw (e, blank_verdict, blank_judged)
-      blanks false e = rw (e, blank_verdict, blank_judged)
+    by_records : records_verdict image s ≡ verdict_by (records_judged image s)
+    unfolding records_verdict blank_verdict records_judged blank_judged verdict_by
+    by_records = go (first_wrong image s) refl
+      where
+        blanks : (b : Bool) → member blank (symbols image s) ≡ b → blank_verdict image s ≡ verdict_by (blank_judged image s)
+        blanks true e = rw (e, blank_verdict, blank_judged)
+        blanks false e = rw (e, blank_verdict, blank_judged)
 
-      go : (o : Option found_wrong.Wrong) → first_wrong image s ≡ o → records_verdict image s ≡ verdict_by (records_judged image s)
-      go none f = rw (f, records_verdict, records_judged) (blanks (member blank (symbols image s)) refl)
-      go (some w) f = rw (f, records_verdict, records_judged, named_by_number w.section)
+        go : (o : maybe.Option Wrong) → first_wrong image s ≡ o → records_verdict image s ≡ verdict_by (records_judged image s)
+        go maybe.none f = rw (f, records_verdict, records_judged) (blanks (member blank (symbols image s)) refl)
+        go (maybe.some w) f = rw (f, records_verdict, records_judged)
 
-  -- ---- The grouping
+    -- the verdict on an image whose frame is right goes by them
+    framed_verdict : {j : Judged} → Framed image (Some s) → RecordsJudged image j → verdict_of image ≡ verdict_by j
+    unfolding verdict_of
+    framed_verdict f r =
+        let right = framed_right image f in
+        let located = (framed_located image f).is in
+        rw (right, verdict_of)
+        (ap (records_verdict image) (sym (located ∙ sections_framed image right)) ∙ by_records ∙ ap verdict_by (ap (records_judged image) located ∙ sym r.is))
 
-  pub break_refused : (r : ℕ) → found (first_break (strings (table_in image s))) ≡ FoundAt r
-      → grouping_verdict image s ≡ Refused (why.Grouping (offset s.contractions r))
-  unfolding grouping_verdict
-  break_refused r e = rw (found_at (first_break (strings (table_in image s))) r e, grouping_verdict)
+    pub record_refused : (fault : Fault) → Framed image (Some s) → RecordsJudged image (Err fault) → verdict_of image ≡ Err (refusal_of s fault)
+    unfolding verdict_by
+    record_refused fault f r = framed_verdict f r
 
-  pub grouped_accepted : found (first_break (strings (table_in image s))) ≡ Nothing → grouping_verdict image s ≡ Accepted
-  unfolding grouping_verdict
-  grouped_accepted e = rw (found_nothing (first_break (strings (table_in image s))) e, grouping_verdict)
+    pub records_passed : Framed image (Some s) → RecordsJudged image (Ok tt) → verdict_of image ≡ grouping_verdict image s
+    unfolding verdict_by
+    records_passed f r = framed_verdict f r

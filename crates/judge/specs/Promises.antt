@@ -2,7 +2,7 @@
 use Rattle.std.specs.Prelude.{ℕ, List, ◌≡◌}
 use Rattle.std.specs.Borrow.{Bor}
 use Rattle.table.specs.Verdict.{verdict_of}
-use Rattle.table.specs.declared.Verdict.{Verdict}
+use Rattle.table.specs.Answers.{Verdict}
 use Rattle.framing.specs.Promises.{Located}
 use Rattle.judge.specs.declared.Reader.{Reader}
 

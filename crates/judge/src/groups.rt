@@ -10,41 +10,31 @@ ghost use Rattle.table.specs.Verdict.{strings};
 ghost use Rattle.table.specs.inside.Found.{found};
 
 use framing::{offset_of, record_byte};
-use table::{Found, Sections};
+use table::Sections;
 
 // The string of contraction record `k`. The record's first byte says how many characters follow it;
 // where the image ends sooner, so does the string.
 fn string_of(image: &[u8], s: Sections, k: u16) -> &[u8]
     ensures { result.now ≡ (entry_at image.now s k).string }
 {
-    let section = s.contractions;
-    let n = record_byte(image, section, k, 0) as usize;
-    let at = offset_of(section, k) + 1;
-    let end = at + n;
-    if end <= image.len() {
-        return &image[at..end];
-    }
-    if at <= image.len() {
-        return &image[at..];
-    }
-    &image[0..0]
+    let n = usize::from(record_byte(image, s.contractions, k, 0));
+    let at = offset_of(s.contractions, k) + 1;
+    let rest = image.get(at..).unwrap_or(&[]);
+    rest.get(..n).unwrap_or(rest)
 }
 
 // In how many of their first characters two strings agree.
 fn agreement_of(a: &[u8], b: &[u8]) -> usize
     ensures { result ≡ agreement a.now b.now }
 {
-    let mut i = 0;
-    while i < a.len() {
-        if b.len() <= i {
-            return i;
+    let mut shared = 0;
+    for (x, y) in a.iter().zip(b) {
+        if x != y {
+            return shared;
         }
-        if a[i] != b[i] {
-            return i;
-        }
-        i += 1;
+        shared += 1;
     }
-    i
+    shared
 }
 
 // Whether record `r` breaks the grouping, where no record before it does: whether one on the walk
@@ -54,13 +44,11 @@ fn breaks_at(image: &[u8], s: Sections, r: u16) -> bool
     ensures { result ≡ breaks_at (strings (table_in image.now s)) r }
 {
     let string = string_of(image, s, r);
-    let mut q = r - 1;
-    let near = agreement_of(string_of(image, s, q), string);
+    let near = agreement_of(string_of(image, s, r - 1), string);
     if near == string.len() {
         return false;
     }
-    while 0 < q {
-        q -= 1;
+    for q in (0..r - 1).rev() {
         let shared = agreement_of(string_of(image, s, q), string);
         if near < shared {
             return true;
@@ -73,16 +61,13 @@ fn breaks_at(image: &[u8], s: Sections, r: u16) -> bool
 }
 
 // The first record that breaks the grouping.
-pub(crate) fn first_break(image: &[u8], s: Sections) -> Found
+pub(crate) fn first_break(image: &[u8], s: Sections) -> Option<u16>
     ensures { result ≡ found (first_break (strings (table_in image.now s))) }
 {
-    let records = s.contractions.records;
-    let mut r = 1;
-    while r < records {
+    for r in 1..s.contractions.records {
         if breaks_at(image, s, r) {
-            return Found::At(r);
+            return Some(r);
         }
-        r += 1;
     }
-    Found::Nothing
+    None
 }

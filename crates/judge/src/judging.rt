@@ -1,59 +1,58 @@
 // The verdict on an image: the frame, the records, the blank and the grouping, in this order.
 
-ghost use Rattle.std.specs.Prelude.{◌≡◌};
-ghost use Rattle.table.specs.Records.{name_at};
-ghost use Rattle.table.specs.Verdict.{refusal_in, records_verdict};
+ghost use Rattle.std.specs.Prelude.{◌≡◌, Err};
+ghost use Rattle.table.specs.Verdict.{refusal_in, grouping_verdict};
 ghost use Rattle.framing.specs.Promises.{Located};
 ghost use Rattle.judge.specs.Promises.{Checked};
+ghost use Rattle.judge.specs.inside.Faults.{refusal_of};
 
 use crate::groups::first_break;
-use framing::{offset_of, section_at};
-use records::{Judged, judge_records};
-use table::{Found, Refusal, Sections, Verdict};
+use framing::{framed, offset_of, section_named};
+use records::{Fault, judge_records};
+use table::{Refusal, SectionName, Sections};
 
-// The refusal of a wrong record of section `i`, counted from 0 in image order.
-fn refusal_in(i: u8, at: usize) -> Refusal
-    ensures { result ≡ refusal_in (name_at i) at }
+// The refusal of a wrong record of a section, at a byte of the image.
+fn refusal_in(name: SectionName, at: usize) -> Refusal
+    ensures { result ≡ refusal_in name at }
 {
-    match i {
-        0 => Refusal::Alphabet(at),
-        1 => Refusal::Contraction(at),
-        2 => Refusal::Context(at),
-        3 => Refusal::Transition(at),
-        _ => Refusal::Decision(at),
+    match name {
+        SectionName::Alphabet => Refusal::Alphabet(at),
+        SectionName::Contractions => Refusal::Contraction(at),
+        SectionName::Contexts => Refusal::Context(at),
+        SectionName::Transitions => Refusal::Transition(at),
+        SectionName::Decisions => Refusal::Decision(at),
     }
 }
 
-// The verdict on an image whose frame is right.
-fn judged(image: &[u8], s: Sections) -> Verdict
-    requires { Located image.now s }
-    ensures { result ≡ records_verdict image.now s }
+// The refusal of what is wrong with the records.
+fn refusal_of(s: Sections, fault: Fault) -> Refusal
+    ensures { result ≡ refusal_of s fault }
 {
-    match judge_records(image) {
-        Judged::Wrong(i, k, j) => {
-            let at = offset_of(section_at(s, i), k) + (j as usize);
-            return Verdict::Refused(refusal_in(i, at));
+    match fault {
+        Fault::Wrong(name, k, j) => {
+            refusal_in(name, offset_of(section_named(s, name), k) + usize::from(j))
         }
-        Judged::NoBlank => {
-            return Verdict::Refused(Refusal::NoBlank);
-        }
-        Judged::Right => {}
+        Fault::NoBlank => Refusal::NoBlank,
     }
-    let contractions = s.contractions;
+}
+
+// The verdict on the grouping of an image.
+fn judge_grouping(image: &[u8], s: Sections) -> Result<(), Refusal>
+    ensures { result ≡ grouping_verdict image.now s }
+{
     match first_break(image, s) {
-        Found::At(r) => Verdict::Refused(Refusal::Grouping(offset_of(contractions, r))),
-        Found::Nothing => Verdict::Accepted,
+        Some(r) => Err(Refusal::Grouping(offset_of(s.contractions, r))),
+        None => Ok(()),
     }
 }
 
-// The verdict on any image, by its sections: accepted, or the first thing that is wrong with it,
-// and where.
-pub(crate) fn verdict_on(image: &[u8], s: Sections) -> Verdict
-    requires { Located image.now s }
+// The verdict on any image: accepted, or the first thing that is wrong with it, and where.
+pub fn check(image: &[u8]) -> Result<(), Refusal>
     ensures { Checked image.now result }
 {
-    if s.classes == 0 {
-        return Verdict::Refused(Refusal::Frame);
+    let s = framed(image).ok_or(Refusal::Frame)?;
+    match judge_records(image) {
+        Ok(()) => judge_grouping(image, s),
+        Err(fault) => Err(refusal_of(s, fault)),
     }
-    judged(image, s)
 }

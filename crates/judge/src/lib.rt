@@ -8,13 +8,14 @@ mod groups;
 mod judging;
 mod opening;
 
-pub use opening::{check, open};
-use table::{Sections, Verdict};
+pub use judging::check;
+pub use opening::open;
+use table::{Refusal, Sections};
 
 // An opened image: the image as it was lent, its sections, and the verdict on it.
 #[derive(Clone, Copy)]
 pub struct Reader<'a> {
     pub image: &'a [u8],
     pub sections: Sections,
-    pub verdict: Verdict,
+    pub verdict: Result<(), Refusal>,
 }

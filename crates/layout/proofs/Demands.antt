@@ -10,7 +10,7 @@ use Rattle.table.specs.Printed.{PrintedSign}
 use Rattle.table.specs.Refusals.{Between}
 use Rattle.table.specs.Table.{table_of}
 use Rattle.table.specs.Verdict.{verdict_of}
-use Rattle.table.specs.declared.Verdict.TheVariants.{Accepted}
+use Rattle.std.specs.Prelude.{Ok}
 use Rattle.table.specs.Lists.{All}
 use Rattle.translation.specs.Collapse.{collapsed}
 use Rattle.translation.specs.Pieces.{characters, pieces_of, signs_of}
@@ -44,7 +44,7 @@ use Rattle.pages.proofs.Ended.{volume_sizes_counted}
 use Rattle.pages.specs.declared.Sheet.{Sheet}
 
 module _ (setting : Setting) (image text : List ℕ) (sheet : Sheet) (width : Between least_width most_width sheet.width) (page_length : Between least_length most_length sheet.length)
-    (accepted : verdict_of image ≡ Accepted) where
+    (accepted : verdict_of image ≡ Ok tt) where
   -- the signs of the text, and its words and format signs
   abbrev signs : List ℕ
   signs = signs_of (pieces_of (table_of image) setting text)

@@ -18,8 +18,8 @@ use Rattle.layout.specs.Refusals.{Line, of_table, line_5, line_6, line_7, line_1
 use Rattle.layout.proofs.Refusals.{refused_exactly_when}
 use Rattle.table.specs.Table.{table_of}
 use Rattle.table.specs.Verdict.{verdict_of}
-use Rattle.table.specs.declared.Verdict.{Verdict}
-use Rattle.table.specs.declared.Verdict.TheVariants.{Accepted, Refused as NotAccepted}
+use Rattle.table.specs.Answers.{Verdict}
+use Rattle.std.specs.Prelude.{Ok, Err}
 use Rattle.table.proofs.Sound.{accepted_sound}
 use Rattle.translation.specs.Letters.{class_of, is_known, first_unknown}
 use Rattle.translation.specs.Pieces.{pieces_of}
@@ -38,14 +38,14 @@ use Rattle.layout.specs.Before.{blank_in, made_before, on_before, embossed_befor
 -- ---- A blank follows
 
 -- by an accepted table a blank is never refused
-pub blank_never_15 : (image : List ℕ) → verdict_of image ≡ Accepted → FollowingUnknown (table_of image).letters blank → ⊥
+pub blank_never_15 : (image : List ℕ) → verdict_of image ≡ Ok tt → FollowingUnknown (table_of image).letters blank → ⊥
 blank_never_15 image accepted unknown = unknown (accepted_sound image accepted).blank_known
 
 module _ (year : ℕ) (image text : List ℕ) where
-  blank_known : verdict_of image ≡ Accepted → is_known (table_of image).letters blank ≡ true
+  blank_known : verdict_of image ≡ Ok tt → is_known (table_of image).letters blank ≡ true
   blank_known accepted = (known_exactly_when (table_of image).letters blank).1 (accepted_sound image accepted).blank_known
 
-  made_as_before : verdict_of image ≡ Accepted → translate_by (table_of image) (blank_in year) text ≡ made_before year (table_of image) text
+  made_as_before : verdict_of image ≡ Ok tt → translate_by (table_of image) (blank_in year) text ≡ made_before year (table_of image) text
   unfolding made_before
   made_as_before accepted = by_length (dec_le (length text) most_text)
     where
@@ -68,9 +68,9 @@ module _ (year : ℕ) (image text : List ℕ) where
     where
       go : (v : Verdict) → verdict_of image ≡ v → (a : Verdict) → sheet_verdict sheet ≡ a
           → translate_on (terms_of (blank_in year) sheet) image text ≡ on_before year (sheet_verdict sheet) image text
-      go (NotAccepted r) e a f = table_refused (terms_of (blank_in year) sheet) image text r e ∙ sym (rw (e, on_before))
-      go Accepted e (NotAccepted r) f = also_refused (terms_of (blank_in year) sheet) image text r e f ∙ sym (rw (e, f, on_before))
-      go Accepted e Accepted f = goes_on (terms_of (blank_in year) sheet) image text e f ∙ made_as_before e ∙ sym (rw (e, f, on_before))
+      go (Err r) e a f = table_refused (terms_of (blank_in year) sheet) image text r e ∙ sym (rw (e, on_before))
+      go (Ok accepted) e (Err r) f = also_refused (terms_of (blank_in year) sheet) image text r e f ∙ sym (rw (e, f, on_before))
+      go (Ok accepted) e (Ok allowed) f = goes_on (terms_of (blank_in year) sheet) image text e f ∙ made_as_before e ∙ sym (rw (e, f, on_before))
 
 -- with a blank following, in any year and by any table, the call answers what it would if the end of a text counted as a blank
 pub as_before : (year : ℕ) (image text : List ℕ) (sheet : Sheet) (out : List ℕ)

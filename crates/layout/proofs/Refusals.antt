@@ -21,8 +21,8 @@ use Rattle.table.specs.Table.{table_of}
 use Rattle.table.specs.Verdict.{verdict_of}
 use Rattle.table.specs.declared.Refusal.{Refusal}
 use Rattle.table.specs.declared.Refusal.TheVariants.{Size, LongText, Unknown, Following, Room}
-use Rattle.table.specs.declared.Verdict.{Verdict}
-use Rattle.table.specs.declared.Verdict.TheVariants.{Accepted, Refused as NotAccepted}
+use Rattle.table.specs.Answers.{Verdict}
+use Rattle.std.specs.Prelude.{Ok, Err}
 use Rattle.table.proofs.FirstLine.{NoneBefore, none_before_next, OneLine}
 use Rattle.table.proofs.FirstLine as First
 use Rattle.table.proofs.Refusals as TableLaws
@@ -157,7 +157,7 @@ module _ (setting : Setting) (image text : List ℕ) (sheet : Sheet) (out : List
           told_not_made LongText (omega arith) (too_long (table_of image) setting text (leb-false _ _ e))
           (record { turn = table_lines + 2; line = line_6 (leb-false _ _ e); none_before = before })
 
-  told_sizes : verdict_of image ≡ Accepted → Told (laid sheet out (translate_on (terms_of setting sheet) image text))
+  told_sizes : verdict_of image ≡ Ok tt → Told (laid sheet out (translate_on (terms_of setting sheet) image text))
   told_sizes v = go (sheet_right sheet) refl
     where
       before : NoneBefore Holds (table_lines + 1)
@@ -188,8 +188,8 @@ module _ (setting : Setting) (image text : List ℕ) (sheet : Sheet) (out : List
   told = go (verdict_of image) refl (TableLaws.verdict_told image)
     where
       go : (v : Verdict) → verdict_of image ≡ v → TableLaws.VerdictTold image v → Told (laid sheet out (translate_on (terms_of setting sheet) image text))
-      go Accepted e (TableLaws.table_accepted no_line) = told_sizes e
-      go (NotAccepted r) e (TableLaws.table_refused h f) =
+      go (Ok accepted) e (TableLaws.table_accepted no_line) = told_sizes e
+      go (Err r) e (TableLaws.table_refused h f) =
           told_not_made r h (table_refused (terms_of setting sheet) image text r e) (of_table_first f)
 
   -- ---- A line has one number and place

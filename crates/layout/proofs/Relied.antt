@@ -15,7 +15,7 @@ use Rattle.table.specs.FirstLine.{FirstLine}
 use Rattle.table.specs.Refusals.{Between, HasLetter}
 use Rattle.table.specs.Table.{table_of}
 use Rattle.table.specs.Verdict.{verdict_of}
-use Rattle.table.specs.declared.Verdict.TheVariants.{Accepted}
+use Rattle.std.specs.Prelude.{Ok, Err}
 use Rattle.table.proofs.Refusals.{accepted_exactly_when}
 use Rattle.table.proofs.Tests.{decided_by}
 use Rattle.table.specs.Lists.{All}
@@ -38,12 +38,10 @@ use Rattle.pages.specs.Fitting.{words_in}
 use Rattle.pages.specs.Right.{PageRight}
 use Rattle.pages.specs.Signs.{is_dotted}
 use Rattle.pages.specs.Drawn.{Shows}
-use Rattle.layout.specs.Emboss.{number, place, written, pieces, lines, pages, Outcome, done, bytes_of, embossing}
+use Rattle.layout.specs.Emboss.{Answer, number, place, written, pieces, lines, pages, Outcome, done, bytes_of, embossing}
 use Rattle.layout.specs.Refusals.{Line, of_table, line_5, line_7, line_15, line_8}
 use Rattle.layout.specs.Promises.{Embossed}
 use Rattle.layout.specs.Relied.{wrote, text_pieces, text_items, Untouched, Bounded, Translates, LaysOut, Earliest}
-use Rattle.layout.specs.declared.Answer.{Answer}
-use Rattle.layout.specs.declared.Answer.TheVariants.{Done, Refused}
 use Rattle.pages.proofs.Sizes.{sizes_right}
 use Rattle.layout.proofs.Refusals as Refusals-laws
 use Rattle.layout.proofs.Demands as Demands-laws
@@ -51,8 +49,8 @@ use Rattle.pages.specs.declared.Sheet.{Sheet}
 
 -- every answer but the done one counts nothing
 untouched : (a : Answer) {before after : List ℕ} → 0 < number a → after ≡ before → Untouched before a after
-untouched (Done w n l g) h e = absurd (omega arith)
-untouched (Refused r) h e = record { bytes = e; written = refl; pieces = refl; lines = refl; pages = refl }
+untouched (Ok l) h e = absurd (omega arith)
+untouched (Err r) h e = record { bytes = e; written = refl; pieces = refl; lines = refl; pages = refl }
 
 module _ (setting : Setting) (image text : List ℕ) (sheet : Sheet) (before : List ℕ) (answer : Answer) (after : List ℕ) (call : Embossed setting image text sheet before answer after) where
   abbrev outcome : Outcome
@@ -115,7 +113,7 @@ module _ (setting : Setting) (image text : List ℕ) (sheet : Sheet) (before : L
     wrote_bytes : wrote answer after ≡ bytes
     wrote_bytes = ap (λ (n : ℕ). take n after) is_written ∙ ap (take (length bytes)) is_after ∙ take-append_seam bytes (drop (length bytes) before)
 
-    table_accepted : verdict_of image ≡ Accepted
+    table_accepted : verdict_of image ≡ Ok tt
     table_accepted =
         (accepted_exactly_when image).1 (λ t n p x. no_line t n p (of_table x))
 

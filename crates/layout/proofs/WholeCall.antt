@@ -5,19 +5,18 @@ use mathlib.Core.List.{List, ◌++◌}
 use mathlib.Core.Path.{◌≡◌, refl, sym, ◌∙◌, ap, subst₂}
 use native.Mathlib.Omega.{arith}
 use lib.Dec.{leb}
+use Rattle.std.specs.Prelude.{Result as Answered, Ok, Err}
 use lib.ListN.{length, take, drop}
 use lib.Seq.{take-append_seam}
 use Rattle.table.specs.Table.{table_of}
-use Rattle.table.specs.declared.Verdict.{Verdict}
+use Rattle.table.specs.Answers.{Verdict}
 use Rattle.table.proofs.Sound.{accepted_sound}
 use Rattle.translation.specs.Collapse.{collapsed}
 use Rattle.translation.specs.Pieces.{Piece, pieces_of, signs_of}
 use Rattle.translation.specs.Translate.{Result, made, refused as not_made, translate_on}
-use Rattle.translation.specs.Handed.{handed, translation}
+use Rattle.translation.specs.Handed.{Translation, handed, translation}
 use Rattle.translation.specs.Promises.{Translated}
 use Rattle.translation.specs.declared.Setting.{Setting}
-use Rattle.translation.specs.declared.Translation.{Translation}
-use Rattle.translation.specs.declared.Translation.TheVariants as t
 use Rattle.translation.proofs.Outcomes.{Made, made_means}
 use Rattle.translation.proofs.Signs.{signs_printed}
 use Rattle.pages.specs.Words.{Item, items_of}
@@ -26,6 +25,7 @@ use Rattle.pages.specs.Volume.{sheet_verdict, bytes_of as bytes_of_signs, end_of
 use Rattle.pages.specs.Fill.{filling}
 use Rattle.pages.specs.Fill as Fill
 use Rattle.pages.specs.Promises.{Fills}
+use Rattle.table.specs.declared.Refusal.{Refusal}
 use Rattle.pages.specs.declared.Filled.{Filled}
 use Rattle.pages.specs.declared.Sheet.{Sheet}
 use Rattle.pages.proofs.Counts.{lines_are_64s, pages_are_65s}
@@ -34,7 +34,6 @@ use Rattle.pages.proofs.Words.{items_fit}
 use Rattle.layout.specs.Emboss.{Outcome, refused, done, roomed, laid, terms_of, embossing}
 use Rattle.layout.specs.inside.Pieces.{with_pieces}
 use Rattle.layout.specs.Promises.{Embossed}
-use Rattle.layout.specs.declared.Answer.TheVariants.{Refused}
 
 module _ (setting : Setting) (image text : List ℕ) (sheet : Sheet) (out lent : List ℕ) where
   abbrev result : Result
@@ -42,8 +41,10 @@ module _ (setting : Setting) (image text : List ℕ) (sheet : Sheet) (out lent :
 
   -- what a translation's answer makes of the call
   abbrev pub Case : Translation → List ℕ → Type 0
-  Case (t.Refused r) signs = Embossed setting image text sheet out (Refused r) out
-  Case (t.Done n k) signs = (a : Filled) (after : List ℕ) → Fills signs k sheet out a after → Embossed setting image text sheet out (with_pieces n a) after
+  Case (Err r) signs = Embossed setting image text sheet out (Err r) out
+  Case (Ok counts) signs =
+      (a : Answered Filled Refusal) (after : List ℕ) → Fills signs counts.signs sheet out a after
+      → Embossed setting image text sheet out (with_pieces counts.pieces a) after
 
   embossed_as : {o : Outcome} → laid sheet out result ≡ o → Embossed setting image text sheet out o.answer o.output
   unfolding embossing

@@ -14,8 +14,8 @@ use Rattle.table.specs.Sections.{is_dated}
 use Rattle.table.specs.Table.{Table, table_of}
 use Rattle.table.specs.Verdict.{verdict_of}
 use Rattle.table.specs.declared.Refusal.TheVariants.{LongText, Unknown, Following}
-use Rattle.table.specs.declared.Verdict.{Verdict}
-use Rattle.table.specs.declared.Verdict.TheVariants.{Accepted, Refused as NotAccepted}
+use Rattle.table.specs.Answers.{Verdict}
+use Rattle.std.specs.Prelude.{Ok, Err}
 use Rattle.table.proofs.Sound.{old_form_always}
 use Rattle.translation.specs.Letters.{is_known, first_unknown}
 use Rattle.translation.specs.Choose.{in_force, no_entry, entry}
@@ -55,8 +55,8 @@ module _ (image text : List ℕ) (sheet : Sheet) (out : List ℕ) (u v : Setting
       ap
       (λ (r : Result).
       elim (verdict_of image) [
-        | Accepted ↦ elim (sheet_verdict sheet) [ Accepted ↦ r | NotAccepted w ↦ not_made w ]
-        | NotAccepted w ↦ not_made w
+        | Ok accepted ↦ elim (sheet_verdict sheet) [ Ok allowed ↦ r | Err w ↦ not_made w ]
+        | Err w ↦ not_made w
       ])
       same
 
@@ -72,14 +72,14 @@ module _ (image text : List ℕ) (sheet : Sheet) (out : List ℕ) (u v : Setting
 -- ---- An accepted image is its table
 
 module _ (setting : Setting) (image text : List ℕ) (sheet : Sheet) (out : List ℕ) where
-  pub by_its_table : verdict_of image ≡ Accepted → embossing setting image text sheet out ≡ embossed_by (table_of image) setting text sheet out
+  pub by_its_table : verdict_of image ≡ Ok tt → embossing setting image text sheet out ≡ embossed_by (table_of image) setting text sheet out
   unfolding embossing embossed_by
   by_its_table accepted = go (sheet_verdict sheet) refl
     where
       go : (w : Verdict) → sheet_verdict sheet ≡ w
           → laid sheet out (translate_on (terms_of setting sheet) image text) ≡ embossed_by (table_of image) setting text sheet out
-      go Accepted e = ap (laid sheet out) (goes_on (terms_of setting sheet) image text accepted e) ∙ sym (rw e)
-      go (NotAccepted r) e = ap (laid sheet out) (also_refused (terms_of setting sheet) image text r accepted e) ∙ sym (rw e)
+      go (Ok allowed) e = ap (laid sheet out) (goes_on (terms_of setting sheet) image text accepted e) ∙ sym (rw e)
+      go (Err r) e = ap (laid sheet out) (also_refused (terms_of setting sheet) image text r accepted e) ∙ sym (rw e)
 
 -- ---- Alike in a year
 
@@ -124,11 +124,11 @@ module _ (setting : Setting) (a b : Table) (alike : AlikeIn setting.year a b) (t
   alike_tables_same_answer = go (sheet_verdict sheet) refl
     where
       go : (w : Verdict) → sheet_verdict sheet ≡ w → embossed_by a setting text sheet out ≡ embossed_by b setting text sheet out
-      go Accepted e = rw e same_by
-      go (NotAccepted r) e = rw e
+      go (Ok allowed) e = rw e same_by
+      go (Err r) e = rw e
 
 -- two accepted images whose tables are alike in the year print alike in it, whatever the form of each
-pub alike_in_a_year : (setting : Setting) (a b text : List ℕ) (sheet : Sheet) (out : List ℕ) → verdict_of a ≡ Accepted → verdict_of b ≡ Accepted
+pub alike_in_a_year : (setting : Setting) (a b text : List ℕ) (sheet : Sheet) (out : List ℕ) → verdict_of a ≡ Ok tt → verdict_of b ≡ Ok tt
     → AlikeIn setting.year (table_of a) (table_of b) → embossing setting a text sheet out ≡ embossing setting b text sheet out
 alike_in_a_year setting a b text sheet out accepted accepted' alike =
     by_its_table setting a text sheet out accepted
@@ -137,7 +137,7 @@ alike_in_a_year setting a b text sheet out accepted accepted' alike =
 
 -- ---- An entry that isn't in force is as if it weren't there
 
-pub not_in_force_not_there : (setting : Setting) (image text : List ℕ) (sheet : Sheet) (out : List ℕ) (k : ℕ) → verdict_of image ≡ Accepted
+pub not_in_force_not_there : (setting : Setting) (image text : List ℕ) (sheet : Sheet) (out : List ℕ) (k : ℕ) → verdict_of image ≡ Ok tt
     → in_force setting.year (entry (table_of image) k) ≡ false
     → embossing setting image text sheet out ≡ embossed_by (without_entry k (table_of image)) setting text sheet out
 not_in_force_not_there setting image text sheet out k accepted over =
@@ -145,8 +145,8 @@ not_in_force_not_there setting image text sheet out k accepted over =
     ∙ sym (alike_tables_same_answer setting (without_entry k (table_of image)) (table_of image) (alike_without setting.year k (table_of image) over) text sheet out)
 
 -- so an image of the table without it, where it is accepted, gives the same
-pub without_it_the_same : (setting : Setting) (image other text : List ℕ) (sheet : Sheet) (out : List ℕ) (k : ℕ) → verdict_of image ≡ Accepted
-    → verdict_of other ≡ Accepted → table_of other ≡ without_entry k (table_of image) → in_force setting.year (entry (table_of image) k) ≡ false
+pub without_it_the_same : (setting : Setting) (image other text : List ℕ) (sheet : Sheet) (out : List ℕ) (k : ℕ) → verdict_of image ≡ Ok tt
+    → verdict_of other ≡ Ok tt → table_of other ≡ without_entry k (table_of image) → in_force setting.year (entry (table_of image) k) ≡ false
     → embossing setting image text sheet out ≡ embossing setting other text sheet out
 without_it_the_same setting image other text sheet out k accepted accepted' without over =
     not_in_force_not_there setting image text sheet out k accepted over

@@ -1,14 +1,13 @@
 -- The call as it was before the caller said what follows: past the end of text stands the blank, and nobody asks whether it is in the alphabet.
 -- proofs/Following.antt shows that with a blank following the call answers so still, whatever the table and the year; and where the table is in the form that
 -- document 01 has, as it did before there were years.
-use Rattle.std.specs.Prelude.{ℕ, true, false, List, leb, length}
+use Rattle.std.specs.Prelude.{ℕ, true, false, List, leb, length, Ok, Err}
 use Rattle.std.proofs.Math.Option.{none, some}
 use Rattle.table.specs.Numbers.{blank, most_text}
 use Rattle.table.specs.Table.{Table, table_of}
+use Rattle.table.specs.Answers.{Verdict}
 use Rattle.table.specs.Verdict.{verdict_of}
 use Rattle.table.specs.declared.Refusal.TheVariants.{LongText, Unknown}
-use Rattle.table.specs.declared.Verdict.{Verdict}
-use Rattle.table.specs.declared.Verdict.TheVariants.{Accepted, Refused as NotAccepted}
 use Rattle.translation.specs.Letters.{first_unknown}
 use Rattle.translation.specs.Pieces.{pieces_of}
 use Rattle.translation.specs.Translate.{Result, made, refused}
@@ -33,8 +32,8 @@ made_before year table text =
 unfoldable pub on_before : ℕ → Verdict → List ℕ → List ℕ → Result
 on_before year also image text =
     elim (verdict_of image) [
-      | Accepted ↦ elim also [ Accepted ↦ made_before year (table_of image) text | NotAccepted r ↦ refused r ]
-      | NotAccepted r ↦ refused r
+      | Ok accepted ↦ elim also [ Ok allowed ↦ made_before year (table_of image) text | Err r ↦ refused r ]
+      | Err r ↦ refused r
     ]
 
 unfoldable pub embossed_before : ℕ → List ℕ → List ℕ → Sheet → List ℕ → Outcome

@@ -1,8 +1,7 @@
 -- 'What comes back': the answer with its six values, and the whole call, from what follows the text, the year, the image, the text, the sheet and the
 -- output as lent to the answer and the output afterwards.
-use Rattle.std.specs.Prelude.{ℕ, true, false, List, ◌++◌, length, drop, leb}
-use Rattle.table.specs.Numbers.{number_done, no_place}
-use Rattle.table.specs.Answers.{refusal_number, refusal_place}
+use Rattle.std.specs.Prelude.{ℕ, true, false, List, ◌++◌, length, drop, leb, Result as Answered, Ok, Err}
+use Rattle.table.specs.Answers.{refusal_number, refusal_place, number_in, place_in}
 use Rattle.table.specs.Table.{Table}
 use Rattle.table.specs.declared.Refusal.{Refusal}
 use Rattle.table.specs.declared.Refusal.TheVariants.{Room}
@@ -14,34 +13,35 @@ use Rattle.pages.specs.Numbers.{line_mark, page_mark}
 use Rattle.table.specs.Search.{count}
 use Rattle.pages.specs.Volume.{bytes_of as bytes_of_signs, sheet_verdict}
 use Rattle.pages.specs.declared.Sheet.{Sheet}
-use Rattle.layout.specs.declared.Answer.{Answer}
-use Rattle.layout.specs.declared.Answer.TheVariants.{Done, Refused}
+use Rattle.layout.specs.declared.Laid.{Laid}
+
+-- what the call answers: what the text takes, or the refusal
+abbrev pub Answer : Type 0
+Answer = Answered Laid Refusal
 
 -- ---- The six values: when refused, all but number and place are 0
 
 abbrev pub number : Answer → ℕ
-number (Done w n l g) = number_done
-number (Refused r) = refusal_number r
+number = number_in refusal_number
 
 abbrev pub place : Answer → ℕ
-place (Done w n l g) = no_place
-place (Refused r) = refusal_place r
+place = place_in refusal_place
 
 abbrev pub written : Answer → ℕ
-written (Done w n l g) = w
-written (Refused r) = 0
+written (Ok l) = l.written
+written (Err r) = 0
 
 abbrev pub pieces : Answer → ℕ
-pieces (Done w n l g) = n
-pieces (Refused r) = 0
+pieces (Ok l) = l.pieces
+pieces (Err r) = 0
 
 abbrev pub lines : Answer → ℕ
-lines (Done w n l g) = l
-lines (Refused r) = 0
+lines (Ok l) = l.lines
+lines (Err r) = 0
 
 abbrev pub pages : Answer → ℕ
-pages (Done w n l g) = g
-pages (Refused r) = 0
+pages (Ok l) = l.pages
+pages (Err r) = 0
 
 -- ---- What the call hands back: the answer, and the output afterwards
 
@@ -51,12 +51,15 @@ pub record Outcome : Type 0 where
 
 -- when refused, the output is as it was
 unfoldable pub refused : List ℕ → Refusal → Outcome
-refused out r = record { answer = Refused r; output = out }
+refused out r = record { answer = Err r; output = out }
 
 -- when done, the bytes stand at the front, and the output beyond them is as it was
 unfoldable pub done : List ℕ → List ℕ → ℕ → Outcome
 done out bytes n =
-    record { answer = Done (length bytes) n (count line_mark bytes) (count page_mark bytes); output = bytes ++ drop (length bytes) out }
+    record {
+      answer = Ok (record { written = length bytes; pieces = n; lines = count line_mark bytes; pages = count page_mark bytes });
+      output = bytes ++ drop (length bytes) out;
+    }
 
 -- ---- The call
 

@@ -1,11 +1,10 @@
 -- What a caller of the whole call may rely on, in the words of the three demands: of a setting, an image, a text, a sheet, the bytes lent, the answer and
 -- the bytes afterwards. proofs/Relied.antt shows each of whatever answer and bytes the promise of `emboss` allows.
-use Rattle.std.specs.Prelude.{ℕ, suc, ◌<◌, ◌≤◌, false, ◌≡◌, length, take, drop}
+use Rattle.std.specs.Prelude.{ℕ, suc, ◌<◌, ◌≤◌, false, ◌≡◌, length, take, drop, Ok}
 use mathlib.Core.List.{List, ◌∷◌, map, flatten}
 use Rattle.table.specs.Refusals.{Between, HasLetter}
 use Rattle.table.specs.Table.{table_of}
 use Rattle.table.specs.Verdict.{verdict_of}
-use Rattle.table.specs.declared.Verdict.TheVariants.{Accepted}
 use Rattle.table.specs.Lists.{All}
 use Rattle.translation.specs.Collapse.{collapsed}
 use Rattle.translation.specs.Decide.{state, moved}
@@ -23,8 +22,7 @@ use Rattle.pages.specs.Fitting.{words_in}
 use Rattle.pages.specs.Right.{PageRight}
 use Rattle.pages.specs.Signs.{is_dotted}
 use Rattle.pages.specs.Drawn.{Shows}
-use Rattle.layout.specs.Emboss.{written, pieces, lines, pages, bytes_of}
-use Rattle.layout.specs.declared.Answer.{Answer}
+use Rattle.layout.specs.Emboss.{Answer, written, pieces, lines, pages, bytes_of}
 use Rattle.pages.specs.declared.Sheet.{Sheet}
 
 -- the bytes that the call wrote, read back out of the bytes afterwards
@@ -52,7 +50,7 @@ pub record Untouched (before : List ℕ) (answer : Answer) (after : List ℕ) : 
 
 -- demand 1: the table, the sizes and the room are right, and beyond the written bytes nothing changed
 pub record Bounded (image : List ℕ) (sheet : Sheet) (before : List ℕ) (answer : Answer) (after : List ℕ) : Type 0 where
-  pub accepted : verdict_of image ≡ Accepted
+  pub accepted : verdict_of image ≡ Ok tt
   pub width : Between least_width most_width sheet.width
   pub page_length : Between least_length most_length sheet.length
   pub room : written answer ≤ length before

@@ -3,20 +3,15 @@
 
 #![tactic(auto)]
 
-mod answering;
 mod embossing;
 
 pub use embossing::emboss;
-use table::Refusal;
 
-// What the whole call answers.
-#[derive(Clone, Copy)]
-pub enum Answer {
-    Done {
-        written: usize,
-        pieces: usize,
-        lines: usize,
-        pages: usize,
-    },
-    Refused(Refusal),
+// What a text takes that is embossed: how many bytes, pieces, lines and pages there are.
+#[derive(Clone, Copy, Debug, PartialEq, Eq)]
+pub struct Laid {
+    pub written: usize,
+    pub pieces: usize,
+    pub lines: usize,
+    pub pages: usize,
 }

@@ -357,10 +357,6 @@ length_move p q cells =
 pub written_move : {p q : Place} (cells : List ℕ) → Goes p q (length cells) → q.written ≡ p.written + length (move_bytes p q cells)
 written_move {p} {q} cells g = let n = length_move p q cells in omega arith
 
--- where the whole has room, so has each of the four runs
-pub run_fits : (w a g b n L L' lined paged at : ℕ) → w + (a + g + b + n) ≤ L → L' ≡ L → lined ≡ w + a → paged ≡ lined + g → at ≡ paged + b → at + n ≤ L'
-run_fits w a g b n L L' lined paged at h l x y z = omega arith
-
 -- the marks, the blanks and the cells, one after another, are the move's bytes
 pub move_written : (p q : Place) (cells : List ℕ) {l m₁ m₂ m₃ m₄ : List ℕ} {lined paged blanks at : ℕ}
     → Wrote l p.written (replicate (q.lines - p.lines) line_mark) m₁ → lined ≡ p.written + (q.lines - p.lines)

@@ -1,17 +1,15 @@
--- Laws of the format signs: none is a word, and the test for a sign that ends a word.
+-- Laws of the format signs: none is a word, and the blank is none.
 use Prim.Native.Nat.{ℕ}
-use mathlib.Core.Bool.{Bool, true, false, cond, ◌||◌}
+use mathlib.Core.Bool.{Bool, true, false, cond}
 use mathlib.Core.List.{List, []}
 use mathlib.Core.Option.{none, some}
-use mathlib.Core.Path.{◌≡◌, refl, ap}
+use mathlib.Core.Path.{◌≡◌, refl}
 use native.Mathlib.Omega.{arith}
 use lib.Dec.{eqb}
 use borrow.Author.Tests.{eqb-true}
 use Rattle.table.specs.Numbers.{blank_cell, sign_line_end, sign_empty_line, sign_paragraph, sign_page_end}
-use Rattle.table.specs.Search.{is_there}
 use Rattle.pages.specs.Words.{Item, word, line_end, empty_line, paragraph, page_end, format_of}
 use Rattle.pages.specs.Place.{cells_in}
-use Rattle.pages.specs.Signs.{ends_word}
 
 -- a format sign is no word
 pub format_no_word : (g : ℕ) (cells : List ℕ) → format_of g ≡ some (word cells) → ⊥
@@ -37,21 +35,3 @@ nil_cells g page_end e = refl
 pub blank_no_format : (g : ℕ) → eqb g blank_cell ≡ true → format_of g ≡ none
 unfolding format_of
 blank_no_format g e = rw (eqb-true g blank_cell e)
-
--- the test for a format sign
-format_test : (g : ℕ) → is_there (format_of g) ≡ (eqb g sign_line_end || eqb g sign_empty_line || eqb g sign_paragraph || eqb g sign_page_end)
-unfolding format_of
-format_test g = go (eqb g sign_line_end) (eqb g sign_empty_line) (eqb g sign_paragraph) (eqb g sign_page_end)
-  where
-    go : (a b c d : Bool)
-        → is_there {A = Item} (cond a (some line_end) (cond b (some empty_line) (cond c (some paragraph) (cond d (some page_end) none)))) ≡ (a || b || c || d)
-    go true b c d = refl
-    go false true c d = refl
-    go false false true d = refl
-    go false false false true = refl
-    go false false false false = refl
-
-pub ends_test : (g : ℕ)
-    → ends_word g ≡ (eqb g blank_cell || (eqb g sign_line_end || eqb g sign_empty_line || eqb g sign_paragraph || eqb g sign_page_end))
-unfolding ends_word
-ends_test g = ap (λ (b : Bool). eqb g blank_cell || b) (format_test g)

@@ -14,7 +14,7 @@ use borrow.Author.Tests.{lt-ltb, eqb-true, eqb-false}
 use Rattle.table.specs.Numbers.{blank_cell, sign_page_end}
 use Rattle.pages.specs.Numbers.{most_width}
 use Rattle.pages.specs.Words.{Item, word, line_end, empty_line, paragraph, page_end, format_of, closed, gathered, part_of, cut_item, cut}
-use Rattle.pages.specs.Place.{after_word, after_item, move_bytes, cells_in, item_bytes, after_items, items_bytes, ended}
+use Rattle.pages.specs.Place.{after_word, after_item, after_page_end, move_bytes, cells_in, item_bytes, after_items, items_bytes, ended}
 use Rattle.pages.specs.Signs.{ends_word}
 use Rattle.pages.specs.inside.Gather.{Modest, after_flush, flush_bytes, after_format, format_bytes, word_bytes, cells_held, stepped, waiting, step_bytes, after_rest, rest_bytes}
 use Rattle.pages.specs.declared.Place.{Place}
@@ -227,6 +227,10 @@ module _ (sheet : Sheet) (wide : 2 ≤ sheet.width) where
   step_bytes_lem p cells g signs h = (runs_step p cells g signs h).written
 
   -- the end of the text is as 73
+  pub ends_as_73 : (p : Place) → after_page_end sheet p ≡ after_format sheet p sign_page_end
+  unfolding after_format format_of after_item
+  ends_as_73 p = refl
+
   pub end_after : (p : Place) (cells : List ℕ) → length cells ≤ sheet.width
       → after_rest sheet p cells [] ≡ after_format sheet (after_flush sheet p (length cells)) sign_page_end
   unfolding after_rest gathered ended cut after_items after_format format_of

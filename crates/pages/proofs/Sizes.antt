@@ -4,10 +4,10 @@ use mathlib.Core.Bool.{Bool, true, false}
 use mathlib.Core.Logic.{inl, inr}
 use mathlib.Core.Path.{◌≡◌, refl}
 use native.Mathlib.Decide.{dec_lt}
+use Rattle.std.specs.Prelude.{Ok, Err}
 use native.Mathlib.Omega.{arith}
 use Rattle.table.specs.Refusals.{Between}
 use Rattle.table.specs.declared.Refusal.TheVariants.{Size}
-use Rattle.table.specs.declared.Verdict.TheVariants.{Accepted, Refused as NotAccepted}
 use Rattle.table.proofs.Tests.{Tells, decided_by, fails_law, tells_and, tells_within}
 use Rattle.pages.specs.Numbers.{least_width, most_width, least_length, most_length}
 use Rattle.pages.specs.Volume.{sheet_right, sheet_verdict}
@@ -38,16 +38,16 @@ module _ (sheet : Sheet) where
       go (yes b) = inr (outside (λ c. (fails_law sizes_tell).0 e (b, c)))
       go (no d) = inl (outside d)
 
-  pub sizes_accepted : sheet_right sheet ≡ true → sheet_verdict sheet ≡ Accepted
+  pub sizes_accepted : sheet_right sheet ≡ true → sheet_verdict sheet ≡ Ok tt
   unfolding sheet_verdict
   sizes_accepted e = rw (e, sheet_verdict)
 
-  pub sizes_refused : sheet_right sheet ≡ false → sheet_verdict sheet ≡ NotAccepted Size
+  pub sizes_refused : sheet_right sheet ≡ false → sheet_verdict sheet ≡ Err Size
   unfolding sheet_verdict
   sizes_refused e = rw (e, sheet_verdict)
 
   -- sizes that are accepted are within their limits
-  pub sizes_of_accepted : sheet_verdict sheet ≡ Accepted → Between least_width most_width sheet.width × Between least_length most_length sheet.length
+  pub sizes_of_accepted : sheet_verdict sheet ≡ Ok tt → Between least_width most_width sheet.width × Between least_length most_length sheet.length
   sizes_of_accepted v = go (sheet_right sheet) refl
     where
       go : (b : Bool) → sheet_right sheet ≡ b → Between least_width most_width sheet.width × Between least_length most_length sheet.length

@@ -1,20 +1,18 @@
 -- What a sign does, by case: one that ends a word, the cell that tells that the word is cut, a cell that waits. The place with the cells that wait then, the bytes, and
 -- those cells.
-use Prim.Native.Nat.{ℕ, suc, ◌+◌, ◌-◌, ◌^◌, ◌≤◌, ◌<◌}
+use Prim.Native.Nat.{ℕ, ◌+◌, ◌-◌, ◌^◌, ◌≤◌}
 use mathlib.Core.Bool.{true, false}
 use mathlib.Core.List.{List, [], ◌∷◌, ◌++◌}
-use mathlib.Core.Path.{◌≡◌, refl, sym, ◌∙◌, ap, ap₂}
-use native.Mathlib.Numerals.{add-one}
+use mathlib.Core.Path.{◌≡◌, ◌∙◌, ap}
 use native.Mathlib.Omega.{arith}
-use lib.ListN.{length, get_or, set, take, drop, length-append, length-set, drop_of_length-le}
-use lib.Seq.{sets, length-sets, length-take-le, take-suc-set, take-take, get_or-take, drop-cons}
+use lib.ListN.{length, drop, length-append}
+use lib.Seq.{sets, length-sets}
 use borrow.Author.Tests.{eq-eqb, ne_eqb}
 use Rattle.table.specs.inside.Wrote.{Wrote}
 use Rattle.table.proofs.Wrote.{put_then}
-use Rattle.pages.specs.Numbers.{hyphen}
 use Rattle.pages.specs.Words.{part_of}
 use Rattle.pages.specs.Place.{after_word}
-use Rattle.pages.specs.inside.Gather.{Modest, after_flush, flush_bytes, after_format, format_bytes, word_bytes, cells_held, stepped, waiting, step_bytes}
+use Rattle.pages.specs.inside.Gather.{Modest, after_flush, flush_bytes, after_format, format_bytes, word_bytes, stepped, waiting, step_bytes}
 use Rattle.pages.specs.Signs.{ends_word}
 use Rattle.pages.specs.inside.Writing.{Room, Moved}
 use Rattle.pages.specs.declared.Place.{Place}
@@ -23,60 +21,32 @@ use Rattle.pages.proofs.Moves as Moves
 use Rattle.pages.proofs.Bytes as Bytes
 use Rattle.pages.proofs.Gather as Gather
 
-pub record StepIs (sheet : Sheet) (p : Place) (cells : List ℕ) (n g : ℕ) (q : Place) (m : ℕ) (bytes cells' : List ℕ) : Type 0 where
-  pub moved : stepped sheet p n g ≡ record { place = q; cells = m }
+pub record StepIs (sheet : Sheet) (p : Place) (cells : List ℕ) (g : ℕ) (q : Place) (bytes cells' : List ℕ) : Type 0 where
+  pub moved : (stepped sheet p (length cells) g).place ≡ q
   pub bytes_are : step_bytes sheet p cells g ≡ bytes
   pub waits : waiting sheet cells g ≡ cells'
 
-module _ (sheet : Sheet) (p : Place) (cells : List ℕ) (n g : ℕ) (e : length cells ≡ n) where
+module _ (sheet : Sheet) (p : Place) (cells : List ℕ) (g : ℕ) where
   pub step_ends : ends_word g ≡ true
-      → StepIs sheet p cells n g (after_format sheet (after_flush sheet p n) g) 0 (flush_bytes sheet p cells ++ format_bytes sheet (after_flush sheet p n) g) []
+      → StepIs sheet p cells g (after_format sheet (after_flush sheet p (length cells)) g)
+      (flush_bytes sheet p cells ++ format_bytes sheet (after_flush sheet p (length cells)) g)
+      []
   unfolding stepped step_bytes waiting
-  step_ends x = record { moved = rw x; bytes_are = rw (x, e); waits = rw x }
+  step_ends x = record { moved = rw x; bytes_are = rw x; waits = rw x }
 
-  pub step_cuts : ends_word g ≡ false → n ≡ sheet.width
-      → StepIs sheet p cells n g (after_word sheet p sheet.width) cells_held (word_bytes sheet p (part_of sheet.width cells))
-      (drop (sheet.width - 1) cells ++ g ∷ [])
+  pub step_cuts : ends_word g ≡ false → length cells ≡ sheet.width
+      → StepIs sheet p cells g (after_word sheet p sheet.width) (word_bytes sheet p (part_of sheet.width cells)) (drop (sheet.width - 1) cells ++ g ∷ [])
   unfolding stepped step_bytes waiting
-  step_cuts x h = let w = eq-eqb n sheet.width h in record { moved = rw (x, w); bytes_are = rw (x, e, w); waits = rw (x, e, w) }
+  step_cuts x h = let w = eq-eqb (length cells) sheet.width h in record { moved = rw (x, w); bytes_are = rw (x, w); waits = rw (x, w) }
 
-  pub step_waits : ends_word g ≡ false → (n ≡ sheet.width → ⊥) → StepIs sheet p cells n g p (n + 1) [] (cells ++ g ∷ [])
+  pub step_waits : ends_word g ≡ false → (length cells ≡ sheet.width → ⊥) → StepIs sheet p cells g p [] (cells ++ g ∷ [])
   unfolding stepped step_bytes waiting
-  step_waits x h = let w = ne_eqb n sheet.width h in record { moved = rw (x, w); bytes_are = rw (x, e, w); waits = rw (x, e, w) }
+  step_waits x h = let w = ne_eqb (length cells) sheet.width h in record { moved = rw (x, w); bytes_are = rw (x, w); waits = rw (x, w) }
 
--- a cell that is stored after those that wait
-pub one_waits_more : (word : List ℕ) (n g : ℕ) → n < length word → take (n + 1) (set word n g) ≡ take n word ++ g ∷ []
-one_waits_more word n g h = rw (add-one n) (take-suc-set word n g h)
-
--- two cells that are stored at the front
-two_stored : (word : List ℕ) (c g : ℕ) → 2 ≤ length word → take cells_held (set (set word 0 c) 1 g) ≡ c ∷ g ∷ []
-two_stored [] c g h = absurd (omega arith)
-two_stored (x ∷ []) c g h = absurd (omega arith)
-two_stored (x ∷ y ∷ word) c g h = refl
-
--- ---- A word that is cut: W cells stand in front of the buffer
-
-module _ (word : List ℕ) (W : ℕ) (wide : 2 ≤ W) (fits : W ≤ length word) where
-  -- the hyphen in place of the last of them makes the part
-  pub cut_part : take W (set word (W - 1) hyphen) ≡ part_of W (take W word)
-  cut_part =
-      let e : suc (W - 1) ≡ W = omega arith in
-      ap (λ (k : ℕ). take k (set word (W - 1) hyphen)) (sym e)
-      ∙ take-suc-set word (W - 1) hyphen (omega arith)
-      ∙ ap (λ (front : List ℕ). front ++ hyphen ∷ []) (sym (take-take (W - 1) W word (omega arith)))
-
-  -- the last of them alone is left
-  held : drop (W - 1) (take W word) ≡ get_or word (W - 1) 0 ∷ []
-  held =
-      let l = length-take-le W word fits in
-      drop-cons (take W word) (W - 1) 0 (omega arith)
-      ∙ ap₂ ◌∷◌ (get_or-take W word (W - 1) 0 (omega arith)) (drop_of_length-le (take W word) {i = suc (W - 1)} (omega arith))
-
-  -- it waits on, with the cell that came
-  pub cut_waits : (g : ℕ) → take cells_held (set (set (set word (W - 1) hyphen) 0 (get_or word (W - 1) 0)) 1 g) ≡ drop (W - 1) (take W word) ++ g ∷ []
-  cut_waits g =
-      let l = length-set word (W - 1) hyphen in
-      two_stored (set word (W - 1) hyphen) (get_or word (W - 1) 0) g (omega arith) ∙ ap (λ (h : List ℕ). h ++ g ∷ []) (sym held)
+-- the cells that wait are placed: what the code hands back for them
+pub flush_moved : (sheet : Sheet) (p : Place) {cells lent out out' : List ℕ} {n : ℕ} {q r : Place} → q ≡ after_flush sheet p n → n ≡ length cells
+    → lent ≡ cells → Moved out p lent out' q r → Moved out p cells out' (after_flush sheet p (length cells)) r
+flush_moved sheet p moved count same m = rw (moved ∙ ap (after_flush sheet p) count, same) at m
 
 -- ---- A sign that ends a word, and the end of the text: the cells that wait are placed, and then the sign moves the place
 

@@ -1,9 +1,8 @@
 -- 'Lines and pages' of signs: the sheet's limits (refusal 5), the bytes of the whole volume, and the place at its end.
-use Rattle.std.specs.Prelude.{ℕ, Bool, cond, ◌&&◌, List}
+use Rattle.std.specs.Prelude.{ℕ, Bool, cond, ◌&&◌, List, Ok, Err}
 use Rattle.table.specs.Search.{within}
+use Rattle.table.specs.Answers.{Verdict}
 use Rattle.table.specs.declared.Refusal.TheVariants.{Size}
-use Rattle.table.specs.declared.Verdict.{Verdict}
-use Rattle.table.specs.declared.Verdict.TheVariants.{Accepted, Refused as NotAccepted}
 use Rattle.pages.specs.Numbers.{least_width, most_width, least_length, most_length}
 use Rattle.pages.specs.Words.{items_of}
 use Rattle.pages.specs.Place.{volume_end, volume}
@@ -16,7 +15,7 @@ sheet_right sheet = within least_width most_width sheet.width && within least_le
 
 -- 5: W or P outside its limits
 unfoldable pub sheet_verdict : Sheet → Verdict
-sheet_verdict sheet = cond (sheet_right sheet) Accepted (NotAccepted Size)
+sheet_verdict sheet = cond (sheet_right sheet) (Ok tt) (Err Size)
 
 -- the bytes of signs, and the place at their end
 unfoldable pub bytes_of : Sheet → List ℕ → List ℕ

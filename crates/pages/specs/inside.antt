@@ -1,3 +1,4 @@
 pub mod Gather
+pub mod Formats
 pub mod Writing
 pub mod Computing

@@ -4,17 +4,18 @@
 
 #![tactic(auto)]
 
+mod ending;
 mod filling;
 mod measuring;
 mod moving;
 mod sizing;
+mod word;
 mod writing;
 
 pub use filling::fill;
-use table::Refusal;
 
 // A sheet: how many cells a line holds, and how many lines a page.
-#[derive(Clone, Copy)]
+#[derive(Clone, Copy, Debug, PartialEq, Eq)]
 pub struct Sheet {
     pub width: usize,
     pub length: usize,
@@ -41,13 +42,10 @@ struct Gathering {
     cells: usize,
 }
 
-// What laying out answers: how many bytes, lines and pages there are, or the refusal.
-#[derive(Clone, Copy)]
-pub enum Filled {
-    Done {
-        written: usize,
-        lines: usize,
-        pages: usize,
-    },
-    Refused(Refusal),
+// What a text takes that is laid out: how many bytes, lines and pages there are.
+#[derive(Clone, Copy, Debug, PartialEq, Eq)]
+pub struct Filled {
+    pub written: usize,
+    pub lines: usize,
+    pub pages: usize,
 }

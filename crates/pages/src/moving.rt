@@ -1,10 +1,13 @@
 // The place on the page and its moves. A place is a value: each move takes it and hands the moved
 // place back, and writes nothing.
+// Kept: `Modest` with its bound in each contract. It is no invariant of a place, since each move
+// adds to the numbers, so each contract has a margin of its own.
 
 ghost use Rattle.std.specs.Prelude.{◌≡◌, ◌<◌, ◌^◌};
 ghost use Rattle.pages.specs.Place.{start, after_line, after_line_end, after_empty_line, after_paragraph, after_page_end, opening_blanks, after_cells, after_word};
-ghost use Rattle.pages.specs.inside.Gather.{Modest};
+ghost use Rattle.pages.specs.inside.Gather.{Modest, after_flush, after_format};
 
+use crate::ending::{Format, NoFormat};
 use crate::{Place, Sheet};
 
 impl Place {
@@ -31,19 +34,18 @@ impl Place {
             Place {
                 column: 0,
                 line: 0,
-                opening: self.opening,
                 written: self.written + 2,
                 lines: self.lines + 1,
                 pages: self.pages + 1,
+                ..self
             }
         } else {
             Place {
                 column: 0,
                 line: self.line + 1,
-                opening: self.opening,
                 written: self.written + 1,
                 lines: self.lines + 1,
-                pages: self.pages,
+                ..self
             }
         }
     }
@@ -67,11 +69,9 @@ impl Place {
     {
         Place {
             column: self.column + blanks + n,
-            line: self.line,
             opening: false,
             written: self.written + blanks + n,
-            lines: self.lines,
-            pages: self.pages,
+            ..self
         }
     }
 
@@ -80,7 +80,7 @@ impl Place {
         requires { n < 2 ^ 32 }
         ensures { result ≡ opening_blanks sheet self n }
     {
-        if self.opening & (2 + n <= sheet.width) {
+        if self.opening && 2 + n <= sheet.width {
             2
         } else {
             0
@@ -103,6 +103,14 @@ impl Place {
         next.cells(next.opening_blanks(sheet, n), n)
     }
 
+    // The `n` cells that wait are placed as a word, if there are any.
+    pub(crate) fn flushed(self, sheet: Sheet, n: usize) -> Place
+        requires { (Modest (2 ^ 32) self) × (n < 2 ^ 32) }
+        ensures { result ≡ after_flush sheet self n }
+    {
+        if 0 < n { self.word(sheet, n) } else { self }
+    }
+
     // Sign 71: as 70, then an empty line unless the page has no line yet.
     pub(crate) fn empty_line(self, sheet: Sheet) -> Place
         requires { Modest (2 ^ 32) self }
@@ -123,12 +131,8 @@ impl Place {
     {
         let ended = self.line_end(sheet);
         Place {
-            column: ended.column,
-            line: ended.line,
             opening: true,
-            written: ended.written,
-            lines: ended.lines,
-            pages: ended.pages,
+            ..ended
         }
     }
 
@@ -142,13 +146,26 @@ impl Place {
             Place {
                 column: 0,
                 line: 0,
-                opening: ended.opening,
                 written: ended.written + 1,
-                lines: ended.lines,
                 pages: ended.pages + 1,
+                ..ended
             }
         } else {
             ended
+        }
+    }
+
+    // A format sign, as its own move; any other sign, and so the blank, moves nothing.
+    pub(crate) fn format(self, sheet: Sheet, sign: u8) -> Place
+        requires { Modest (2 ^ 32) self }
+        ensures { result ≡ after_format sheet self sign }
+    {
+        match Format::try_from(sign) {
+            Ok(Format::LineEnd) => self.line_end(sheet),
+            Ok(Format::EmptyLine) => self.empty_line(sheet),
+            Ok(Format::Paragraph) => self.paragraph(sheet),
+            Ok(Format::PageEnd) => self.page_end(sheet),
+            Err(NoFormat) => self,
         }
     }
 }

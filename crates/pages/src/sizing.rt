@@ -3,17 +3,17 @@
 ghost use Rattle.pages.specs.Promises.{SheetVerdict};
 
 use crate::Sheet;
-use table::{Refusal, Verdict};
+use table::Refusal;
 
 impl Sheet {
     // Accepted where the width and the page length are within their limits.
-    pub fn verdict(self) -> Verdict
+    pub fn verdict(self) -> Result<(), Refusal>
         ensures { SheetVerdict self result }
     {
-        if (8 <= self.width) & (self.width <= 60) & ((2 <= self.length) & (self.length <= 40)) {
-            Verdict::Accepted
+        if (8..=60).contains(&self.width) && (2..=40).contains(&self.length) {
+            Ok(())
         } else {
-            Verdict::Refused(Refusal::Size)
+            Err(Refusal::Size)
         }
     }
 }

@@ -1,7 +1,7 @@
 -- The number of a symbol's first alphabet record: how it moves on by one record, and what it tells: that a symbol is in the alphabet, and that it is not
 -- that of an earlier record.
 use Prim.Native.Nat.{ℕ, ◌+◌, ◌<◌}
-use mathlib.Core.Bool.{Bool, true, false≢true, cond, not}
+use mathlib.Core.Bool.{Bool, true, false≢true, cond, not, ◌&&◌}
 use mathlib.Core.List.{List}
 use mathlib.Core.Option.{Option, none, some}
 use mathlib.Core.Path.{◌≡◌, refl, sym, ◌∙◌, ap, subst}
@@ -14,7 +14,7 @@ use borrow.Author.Tests.{eqb-true, eqb-false, eq-eqb, ne_eqb}
 use Rattle.table.specs.Numbers.{symbol_byte, padding}
 use Rattle.table.specs.Search.{first, member}
 use Rattle.table.specs.Sections.{record_byte}
-use Rattle.table.specs.Records.{symbols, right_string_byte}
+use Rattle.table.specs.Records.{symbols, right_symbol, right_new_symbol, right_string_byte}
 use Rattle.table.specs.Refusals.{symbol_of, InAlphabet}
 use Rattle.records.specs.inside.Judging.{number_of, letter_number, Gathered, LettersBySymbol, right_character}
 use Rattle.table.specs.declared.Section.{Section}
@@ -142,3 +142,13 @@ module _ (image : List ℕ) (s : Sections) (c : ℕ) where
   unfolding right_character right_string_byte
   character_tests letters gathered len i byte =
       ap (λ (b : Bool). cond (ltb i len) b (eqb c padding)) (ap (λ (n : ℕ). not (eqb n 0)) (gathered.numbers c byte) ∙ number_in_alphabet)
+
+-- and whether record `k`'s symbol is right and new
+pub symbol_told : (image : List ℕ) (s : Sections) (k : ℕ) (letters : List ℕ) → LettersBySymbol image s.alphabet letters → k < s.alphabet.records
+    → (symbol : ℕ) → symbol ≡ record_byte image s.alphabet k symbol_byte → symbol < 256
+    → right_new_symbol (take k (symbols image s)) (record_byte image s.alphabet k symbol_byte) ≡ (right_symbol symbol && eqb (get_or letters symbol 0) (k + 1))
+unfolding right_new_symbol
+symbol_told image s k letters gathered there symbol is byte =
+    rw (← is)
+    (ap (λ b. right_symbol symbol && b)
+    (sym (ap (λ (n : ℕ). eqb n (k + 1)) (gathered.numbers symbol byte) ∙ number_first image s symbol k there (sym is))))

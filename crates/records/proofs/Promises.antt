@@ -3,7 +3,7 @@ use Prim.Native.Nat.{ℕ}
 use mathlib.Core.List.{List}
 use mathlib.Core.Path.{◌≡◌, sym, ◌∙◌}
 use Rattle.records.specs.Promises.{RecordsJudged}
-use Rattle.records.specs.declared.Judged.{Judged}
+use Rattle.records.specs.Judged.{Judged}
 
 pub judge_records_determined : {image : List ℕ} {a b : Judged} → RecordsJudged image a → RecordsJudged image b → a ≡ b
 judge_records_determined p q = p.is ∙ sym q.is

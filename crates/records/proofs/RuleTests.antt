@@ -1,13 +1,15 @@
 -- The first wrong byte of a rule, as the code finds it: a test that fails is the first, and past those that pass it is the first of the rest. And the two
 -- tests that the code makes by a letter's number are in LetterNumbers.
-use Prim.Native.Nat.{ℕ, zero, suc, ◌+◌, ◌-◌}
+use Prim.Native.Nat.{ℕ, zero, suc, ◌+◌, ◌-◌, ◌<◌, ◌≤◌}
 use mathlib.Core.Bool.{Bool, true, false, not}
 use mathlib.Core.List.{List, [], ◌∷◌, ◌++◌}
 use mathlib.Core.Option.{Option, none, some}
 use mathlib.Core.Path.{◌≡◌, refl, sym, ◌∙◌, ap}
 use native.Mathlib.Omega.{arith}
-use lib.Dec.{leb}
-use lib.ListN.{length, get_or, take}
+use lib.Dec.{leb, ltb}
+use lib.ListN.{length, get_or, take, length-append, get_or-append}
+use Rattle.std.proofs.lemmas.Bool.{ltb-true, ltb-false}
+use Rattle.std.proofs.lemmas.List.{get_or-append_right}
 use Rattle.table.specs.Numbers.{symbol_byte, letter_class_byte, letter_sign_byte, length_byte, string_byte, context_byte, entry_class_byte, shift_byte, signs_byte, first_year_byte, entry_signs, least_length, most_length, least_shift, context_size}
 use Rattle.table.specs.Search.{within, first_from, first, list_from, list_of}
 use Rattle.table.specs.Sections.{record_byte, first_year, last_year}
@@ -124,23 +126,37 @@ module _ (image : List ℕ) (s : Sections) (k : ℕ) where
   letter_passes e f g =
       rw (e, f, g) (wrong_past (true ∷ true ∷ []) ∙ ap (past 1) (wrong_past (true ∷ []) ∙ ap (past 1) (wrong_past [] ∙ ap (past 1) none_wrong)))
 
-  -- of a decision column: among the bytes of the classes, or past them
-  abbrev pub decision_wrong : Option ℕ
-  decision_wrong = first (λ j. not (right_decision (record_byte image s.decisions k j))) s.classes
+  -- of a decision column: a byte of a class, or past them a condition
+  abbrev pub column_test : ℕ → Bool
+  column_test j =
+      elim (ltb j s.classes) [ true ↦ right_decision (record_byte image s.decisions k j) | false ↦ right_condition (record_byte image s.decisions k j) ]
 
-  abbrev pub condition_wrong : Option ℕ
-  condition_wrong = first (λ v. not (right_condition (record_byte image s.decisions k (s.classes + v)))) s.variables
+  pub decision_wrong : wrong_byte (decision_rule image s k) ≡ first (λ j. not (column_test j)) (s.classes + s.variables)
+  unfolding wrong_byte decision_rule
+  decision_wrong =
+      ap (first (λ j. not (get_or (of_classes ++ of_variables) j true)))
+      (length-append of_classes of_variables ∙ ap (λ n. n + length of_variables) (length_list_of _ s.classes) ∙ ap (λ n. s.classes + n) (length_list_of _ s.variables))
+      ∙ first_same _ (λ j. not (column_test j)) (s.classes + s.variables) (λ j l. ap not (go j (ltb j s.classes) refl l))
+    where
+      of_classes : List Bool
+      of_classes = list_of (λ j. right_decision (record_byte image s.decisions k j)) s.classes
 
-  pub decision_among : (j : ℕ) → decision_wrong ≡ some j → wrong_byte (decision_rule image s k) ≡ some j
-  unfolding decision_rule
-  decision_among j e = wrong_among _ _ j (wrong_of_places _ s.classes ∙ e)
+      of_variables : List Bool
+      of_variables = list_of (λ v. right_condition (record_byte image s.decisions k (s.classes + v))) s.variables
 
-  pub decision_beyond : decision_wrong ≡ none → wrong_byte (decision_rule image s k) ≡ past s.classes condition_wrong
-  unfolding decision_rule
-  decision_beyond e =
-      wrong_beyond _ _ (wrong_of_places _ s.classes ∙ e)
-      ∙ ap (λ (n : ℕ). past n (wrong_byte (list_of (λ v. right_condition (record_byte image s.decisions k (s.classes + v))) s.variables))) (length_list_of _ s.classes)
-      ∙ ap (past s.classes) (wrong_of_places _ s.variables)
+      go : (j : ℕ) (b : Bool) → ltb j s.classes ≡ b → j < s.classes + s.variables
+          → get_or (of_classes ++ of_variables) j true
+          ≡ elim b [ true ↦ right_decision (record_byte image s.decisions k j) | false ↦ right_condition (record_byte image s.decisions k j) ]
+      go j true e l =
+          let within : j < s.classes = ltb-true j s.classes e in
+          let there : j < length of_classes = rw length_list_of within in
+          get_or-append of_classes of_variables true j there ∙ get_or_list_of _ s.classes j true within
+      go j false e l =
+          let past : s.classes ≤ j = ltb-false j s.classes e in
+          let same : s.classes + (j - s.classes) ≡ j = omega arith in
+          get_or-append_right of_classes of_variables s.classes j true (length_list_of _ s.classes) past
+          ∙ get_or_list_of _ s.variables (j - s.classes) true (omega arith)
+          ∙ ap (λ n. right_condition (record_byte image s.decisions k n)) same
 
   abbrev byte : ℕ → ℕ
   byte = record_byte image s.contractions k

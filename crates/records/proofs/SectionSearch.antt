@@ -1,89 +1,71 @@
--- The search for the first wrong record goes through the sections by their numbers in image order, and through the records of each.
-use Prim.Native.Nat.{ℕ, ◌+◌, ◌≤◌, ◌<◌}
-use mathlib.Core.Bool.{Bool, true, false, not}
-use mathlib.Core.List.{List}
-use mathlib.Core.Option.{Option, none, some, get_or}
-use mathlib.Core.Path.{◌≡◌, refl, ◌∙◌, ap}
+-- The search for the first wrong record goes through the sections in image order, and through the records of each.
+use Rattle.std.proofs.Common.{ℕ, ◌+◌, ◌≤◌, ◌<◌, Bool, true, false, not, List, ◌∷◌, drop, Ok, Err, ◌≡◌, refl, get_or}
+use Rattle.std.proofs.Math.Option as maybe
+use Rattle.std.proofs.Math.Seq.{drop-cons}
 use native.Mathlib.Numerals.{add-one}
-use native.Mathlib.Omega.{arith}
-use lib.ListN.{drop}
-use lib.Seq.{drop-cons}
-use Rattle.table.specs.Search.{first}
-use Rattle.table.specs.Records.{SectionName, decisions, wrong_byte, right_record, section_named, rule_of, Wrong, wrong_in, first_wrong_of, image_order, name_at}
-use Rattle.table.specs.Refusals.{sections_before}
+use Rattle.table.specs.Records.{wrong_byte, right_record, section_named, rule_of, Wrong, wrong_in, first_wrong_of, image_order}
 use Rattle.table.specs.declared.Sections.{Sections}
+use Rattle.table.specs.declared.SectionName.{SectionName}
 use Rattle.table.proofs.Search.{found_first, found_none}
-use Rattle.table.proofs.SectionOrder.{numbered_by_name}
-use Rattle.records.specs.inside.Judging.{wrong_byte_of, found_in, found_wrong}
-use Rattle.records.specs.declared.rules.WrongIn.TheVariants.{AtByte, NoneWrong}
-use Rattle.records.specs.declared.rules.WrongRecord.TheVariants.{At}
-
--- ---- From section `i` on
+use Rattle.records.specs.declared.Fault.{Fault}
+use Rattle.records.specs.declared.Fault.TheVariants.{Wrong as WrongAt}
+use Rattle.records.specs.Judged.{Judged}
+use Rattle.records.specs.inside.Judging.{fault_of}
 
 module _ (image : List ℕ) (s : Sections) where
-  abbrev pub wrong_from : ℕ → Option Wrong
-  wrong_from i = first_wrong_of image s (drop i image_order)
-
   -- ---- One section
 
-  abbrev pub is_wrong : ℕ → ℕ → Bool
-  is_wrong i k = not (right_record (rule_of image s (name_at i) k))
+  abbrev pub is_wrong : SectionName → ℕ → Bool
+  is_wrong name k = not (right_record (rule_of image s name k))
 
   -- a record is wrong where it has a first wrong byte
-  pub wrong_with_byte : (i k j : ℕ) → wrong_byte_of image s i k ≡ some j → is_wrong i k ≡ true
+  pub wrong_with_byte : (name : SectionName) (k j : ℕ) → wrong_byte (rule_of image s name k) ≡ maybe.some j → is_wrong name k ≡ true
   unfolding right_record
-  wrong_with_byte i k j e = rw e
+  wrong_with_byte name k j e = rw e
 
-  pub right_without : (i k : ℕ) → wrong_byte_of image s i k ≡ none → is_wrong i k ≡ false
+  pub right_without : (name : SectionName) (k : ℕ) → wrong_byte (rule_of image s name k) ≡ maybe.none → is_wrong name k ≡ false
   unfolding right_record
-  right_without i k e = rw e
+  right_without name k e = rw e
 
-  -- record `k` is the first wrong one of section `i`, at its byte `j`
-  pub found_in_lem : (i k j : ℕ) → ((m : ℕ) → m < k → is_wrong i m ≡ false) → k < (section_named s (name_at i)).records → wrong_byte_of image s i k ≡ some j
-      → found_in (wrong_in image s (name_at i)) ≡ AtByte k j
+  -- record `k` is the first wrong one of the section, at its byte `j`
+  pub found_in : (name : SectionName) (k j : ℕ) → ((m : ℕ) → m < k → is_wrong name m ≡ false) → k < (section_named s name).records
+      → wrong_byte (rule_of image s name k) ≡ maybe.some j
+      → fault_of (wrong_in image s name) ≡ Err (WrongAt name k j)
   unfolding wrong_in
-  found_in_lem i k j fails l e =
-      rw (found_first (is_wrong i) (section_named s (name_at i)).records k fails l (wrong_with_byte i k j e), wrong_in, e)
+  found_in name k j fails l e =
+      rw (found_first (is_wrong name) (section_named s name).records k fails l (wrong_with_byte name k j e), wrong_in, e)
 
-  pub none_in : (i k : ℕ) → ((m : ℕ) → m < k → is_wrong i m ≡ false) → (section_named s (name_at i)).records ≤ k
-      → found_in (wrong_in image s (name_at i)) ≡ NoneWrong
+  pub none_in : (name : SectionName) (k : ℕ) → ((m : ℕ) → m < k → is_wrong name m ≡ false) → (section_named s name).records ≤ k
+      → fault_of (wrong_in image s name) ≡ Ok tt
   unfolding wrong_in
-  none_in i k fails l = rw (found_none (is_wrong i) (section_named s (name_at i)).records k fails l, wrong_in)
-
-  -- what the search of a section finds lies in that section
-  named_in : (name : SectionName) (w : Wrong) → wrong_in image s name ≡ some w → w.section ≡ name
-  unfolding wrong_in
-  named_in name w e = go (first (λ k. not (right_record (rule_of image s name k))) (section_named s name).records) e
-    where
-      go : (o : Option ℕ)
-          → ◌≡◌ {A = Option Wrong}
-          (elim o [
-            | none ↦ none
-            | some k ↦ some (record { section = name; index = k; byte = get_or (wrong_byte (rule_of image s name k)) 0 })
-          ])
-          (some w)
-          → w.section ≡ name
-      go none e = let z : ◌≡◌ {A = ℕ} 0 1 = cc in absurd (omega arith)
-      go (some k) e = cc
+  none_in name k fails l = rw (found_none (is_wrong name) (section_named s name).records k fails l, wrong_in)
 
   -- ---- The sections, one after the other
 
-  pub wrong_here : (i k j : ℕ) → i < 5 → found_in (wrong_in image s (name_at i)) ≡ AtByte k j → found_wrong (wrong_from i) ≡ At i k j
-  unfolding first_wrong_of
-  wrong_here i k j l e = go (wrong_in image s (name_at i)) refl e
-    where
-      go : (o : Option Wrong) → wrong_in image s (name_at i) ≡ o → found_in o ≡ AtByte k j → found_wrong (wrong_from i) ≡ At i k j
-      go none f h = let z : ◌≡◌ {A = ℕ} 0 1 = cc in absurd (omega arith)
-      go (some w) f h =
-          let index : w.index ≡ k = cc in
-          let byte : w.byte ≡ j = cc in
-          let number : sections_before w.section ≡ i = ap sections_before (named_in (name_at i) w f) ∙ numbered_by_name i l in
-          rw (drop-cons image_order i decisions l, first_wrong_of, f, number, index, byte)
+  -- from section `i` on
+  abbrev pub fault_from : ℕ → Judged
+  fault_from i = fault_of (first_wrong_of image s (drop i image_order))
 
-  pub right_here : (i : ℕ) → i < 5 → found_in (wrong_in image s (name_at i)) ≡ NoneWrong → wrong_from i ≡ wrong_from (i + 1)
-  unfolding first_wrong_of
-  right_here i l e = go (wrong_in image s (name_at i)) refl e
-    where
-      go : (o : Option Wrong) → wrong_in image s (name_at i) ≡ o → found_in o ≡ NoneWrong → wrong_from i ≡ wrong_from (i + 1)
-      go none f h = rw (drop-cons image_order i decisions l, add-one, first_wrong_of, f)
-      go (some w) f h = let z : ◌≡◌ {A = ℕ} 0 1 = cc in absurd (omega arith)
+  module _ (name : SectionName) (names : List SectionName) where
+    wrong_first : (f : Fault) → fault_of (wrong_in image s name) ≡ Err f → fault_of (first_wrong_of image s (name ∷ names)) ≡ Err f
+    unfolding first_wrong_of
+    wrong_first f e = go (wrong_in image s name) refl e
+      where
+        go : (o : maybe.Option Wrong) → wrong_in image s name ≡ o → fault_of o ≡ Err f → fault_of (first_wrong_of image s (name ∷ names)) ≡ Err f
+        go maybe.none p h = cc
+        go (maybe.some w) p h = rw (p, first_wrong_of) h
+
+    right_first : fault_of (wrong_in image s name) ≡ Ok tt → fault_of (first_wrong_of image s (name ∷ names)) ≡ fault_of (first_wrong_of image s names)
+    unfolding first_wrong_of
+    right_first e = go (wrong_in image s name) refl e
+      where
+        go : (o : maybe.Option Wrong) → wrong_in image s name ≡ o → fault_of o ≡ Ok tt
+            → fault_of (first_wrong_of image s (name ∷ names)) ≡ fault_of (first_wrong_of image s names)
+        go maybe.none p h = rw (p, first_wrong_of)
+        go (maybe.some w) p h = cc
+
+  pub wrong_here : (i : ℕ) (d : SectionName) (f : Fault) → i < 5 → fault_of (wrong_in image s (get_or image_order i d)) ≡ Err f → fault_from i ≡ Err f
+  wrong_here i d f l e = rw (drop-cons image_order i d l) (wrong_first _ _ f e)
+
+  pub right_here : (i : ℕ) (d : SectionName) → i < 5 → fault_of (wrong_in image s (get_or image_order i d)) ≡ Ok tt → fault_from i ≡ fault_from (i + 1)
+  right_here i d l e = rw (add-one, drop-cons image_order i d l) (right_first _ _ e)

@@ -8,13 +8,12 @@ mod rules;
 mod searching;
 
 pub use searching::judge_records;
+use table::SectionName;
 
-// What is wrong with the records of an image: a wrong byte, by its section, counted from 0 in image
-// order, its record's number there and its own number in the record; that no record of the alphabet
-// has the blank; or nothing.
-#[derive(Clone, Copy)]
-pub enum Judged {
-    Wrong(u8, u16, u16),
+// What is wrong with the records of an image: a wrong byte, by its section, its record's number
+// there and its own number in the record; or that no record of the alphabet has the blank.
+#[derive(Clone, Copy, Debug, PartialEq, Eq)]
+pub enum Fault {
+    Wrong(SectionName, u16, u16),
     NoBlank,
-    Right,
 }

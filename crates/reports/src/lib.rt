@@ -10,5 +10,12 @@ mod lining;
 mod loading;
 mod tabling;
 
-pub use loading::{Loaded, load, load_readable};
+pub use loading::{load, load_readable};
 pub use tabling::{print_stamp, print_table, refused_table};
+
+// A table in memory: its image, and the readable table that the image was made of, if it was.
+#[derive(Clone, Copy)]
+pub struct Table<'a> {
+    pub image: &'a [u8],
+    pub text: Option<&'a [u8]>,
+}

@@ -1,169 +1,134 @@
 // Tables as arguments: an image, or a readable table, which is a file whose name ends in .table. Of a
 // readable table the image is made in memory first.
 
-use desk::{argument, front, read_argument, say, say_argument, say_number, say_refused};
-use tables::{Drawn, Expected};
-
-// What came of it: the status, 0 where there is an image; the bytes of the image; and those of the
-// readable table, 0 where it is none.
-#[derive(Clone, Copy)]
-pub struct Loaded {
-    pub status: i32,
-    pub image: usize,
-    pub text: usize,
-}
-
-fn ended(status: i32) -> Loaded {
-    Loaded {
-        status: status,
-        image: 0,
-        text: 0,
-    }
-}
+use crate::Table;
+use desk::{Failure, argument, front, read_argument, say, say_argument, say_refused};
+use std::fmt;
+use std::fmt::Display;
+use table::Numbered;
+use tables::{Expected, Undrawn};
 
 // ---- An image
 
-fn table_long(rt: &HostRuntime, i: usize) -> i32 {
+fn table_long(rt: &HostRuntime, i: usize) -> Failure {
     say(rt, b"press: refused 1 at 0: ");
     say_argument(rt, i);
     say(
         rt,
         b" has more than 32,768 bytes, and no right table image has more than 28,301\n",
     );
-    1
+    Failure::Refused
 }
 
-fn load_image(rt: &HostRuntime, i: usize, image: &mut [u8]) -> Loaded {
-    let reading = read_argument(rt, i, image);
-    if reading.failed.is_some() {
-        return ended(3);
+fn load_image<'a>(rt: &HostRuntime, i: usize, image: &'a mut [u8]) -> Result<Table<'a>, Failure> {
+    let length = read_argument(rt, i, image)?;
+    if 32768 < length {
+        return Err(table_long(rt, i));
     }
-    if 32768 < reading.count {
-        return ended(table_long(rt, i));
-    }
-    Loaded {
-        status: 0,
-        image: reading.count,
-        text: 0,
-    }
+    Ok(Table {
+        image: &image[..length],
+        text: None,
+    })
 }
 
 // ---- A readable table
 
-fn say_line(rt: &HostRuntime, stage: u8) {
-    if stage == 0 {
-        say(rt, b"dated or classes");
-    } else if stage == 1 {
-        say(rt, b"classes");
-    } else if stage == 2 {
-        say(rt, b"variables");
-    } else if stage < 5 {
-        say(rt, b"letter, entry, context, transition or decision");
-    } else if stage == 5 {
-        say(rt, b"entry, context, transition or decision");
-    } else if stage == 6 {
-        say(rt, b"context, transition or decision");
-    } else if stage == 7 {
-        say(rt, b"transition or decision");
-    } else {
-        say(rt, b"decision");
+// The lines that may stand after a stage.
+fn lines_after(stage: u8) -> &'static str {
+    match stage {
+        0 => "dated or classes",
+        1 => "classes",
+        2 => "variables",
+        3 | 4 => "letter, entry, context, transition or decision",
+        5 => "entry, context, transition or decision",
+        6 => "context, transition or decision",
+        7 => "transition or decision",
+        _ => "decision",
     }
 }
 
-fn say_from_to(rt: &HostRuntime, least: u16, most: u16) {
-    say(rt, b"a number from ");
-    say_number(rt, least as usize);
-    say(rt, b" to ");
-    say_number(rt, most as usize);
-}
+// What was expected, in words.
+#[derive(Clone, Copy)]
+struct Wanted(Expected);
 
-fn say_expected(rt: &HostRuntime, expected: Expected) {
-    match expected {
-        Expected::Line(stage) => say_line(rt, stage),
-        Expected::Fewer => say(rt, b"no more lines of this kind"),
-        Expected::Number(least, most) => say_from_to(rt, least, most),
-        Expected::Symbol => say(rt, b"a symbol, 33 to 126, or _ for the blank"),
-        Expected::Escaped => say(rt, b"#, _ or \\ after the backslash"),
-        Expected::WordEnd => say(rt, b"the end of the word"),
-        Expected::Row(n) => {
-            say_number(rt, n as usize);
-            say(rt, b" symbols in this row");
+impl Display for Wanted {
+    fn fmt<W: fmt::Write>(&self, f: &mut fmt::Formatter<W>) -> fmt::Result {
+        match self.0 {
+            Expected::Line(stage) => f.write_str(lines_after(stage)),
+            Expected::Fewer => f.write_str("no more lines of this kind"),
+            Expected::Number(least, most) => write!(f, "a number from {least} to {most}"),
+            Expected::Symbol => f.write_str("a symbol, 33 to 126, or _ for the blank"),
+            Expected::Escaped => f.write_str("#, _ or \\ after the backslash"),
+            Expected::WordEnd => f.write_str("the end of the word"),
+            Expected::Row(n) => write!(f, "{n} symbols in this row"),
+            Expected::Colon => f.write_str("a colon, and then the signs"),
+            Expected::LineEnd => f.write_str("the end of the line"),
+            Expected::Letter => f.write_str("a letter"),
+            Expected::Transition => f.write_str("a transition for each variable"),
         }
-        Expected::Colon => say(rt, b"a colon, and then the signs"),
-        Expected::LineEnd => say(rt, b"the end of the line"),
-        Expected::Letter => say(rt, b"a letter"),
-        Expected::Transition => say(rt, b"a transition for each variable"),
     }
 }
 
 // Why no image was made of a readable table: 22, or 8, which no text of the form comes to here.
-fn not_made(rt: &HostRuntime, drawn: Drawn) -> i32 {
-    say_refused(rt, drawn.number(), drawn.place());
-    if let Drawn::Unlike {
-        at: _,
-        line: row,
-        column: character,
-        expected: wanted,
-    } = drawn
+fn not_made(rt: &HostRuntime, undrawn: Undrawn) -> Failure {
+    say_refused(rt, undrawn.number(), undrawn.place());
+    if let Undrawn::Unlike {
+        line,
+        column,
+        expected,
+        ..
+    } = undrawn
     {
-        say(rt, b" (line ");
-        say_number(rt, row);
-        say(rt, b", column ");
-        say_number(rt, character);
-        say(rt, b"): expected ");
-        say_expected(rt, wanted);
+        let wanted = Wanted(expected);
+        let _ = eprint!(rt; " (line {line}, column {column}): expected {wanted}");
     }
     say(rt, b"\n");
-    1
+    Failure::Refused
 }
 
-fn text_long(rt: &HostRuntime, i: usize) -> i32 {
+fn text_long(rt: &HostRuntime, i: usize) -> Failure {
     say(rt, b"press: ");
     say_argument(rt, i);
     say(
         rt,
         b" has more than 262,144 bytes, which is more than this program has room for\n",
     );
-    3
+    Failure::System
 }
 
 // The readable table that argument `i` names, whatever its name.
-pub fn load_readable(rt: &HostRuntime, i: usize, text: &mut [u8], image: &mut [u8]) -> Loaded {
-    let reading = read_argument(rt, i, text);
-    if reading.failed.is_some() {
-        return ended(3);
+pub fn load_readable<'a>(
+    rt: &HostRuntime,
+    i: usize,
+    text: &'a mut [u8],
+    image: &'a mut [u8],
+) -> Result<Table<'a>, Failure> {
+    let length = read_argument(rt, i, text)?;
+    if 262144 < length {
+        return Err(text_long(rt, i));
     }
-    if 262144 < reading.count {
-        return ended(text_long(rt, i));
-    }
-    let drawn = tables::make(front(text, reading.count), image);
-    if drawn.number() != 0 {
-        return ended(not_made(rt, drawn));
-    }
-    Loaded {
-        status: 0,
-        image: drawn.written(),
-        text: reading.count,
-    }
+    let text = &text[..length];
+    let written = tables::make(text, image).map_err(|undrawn| not_made(rt, undrawn))?;
+    Ok(Table {
+        image: front(image, written),
+        text: Some(text),
+    })
 }
 
 // ---- Either
 
-fn is_readable(name: &[u8]) -> bool {
-    let length = name.len();
-    if length < 6 {
-        return false;
-    }
-    let from = length - 6;
-    &name[from..] == b".table".as_slice()
-}
-
 // The table that argument `i` names.
-pub fn load(rt: &HostRuntime, i: usize, text: &mut [u8], image: &mut [u8]) -> Loaded {
+pub fn load<'a>(
+    rt: &HostRuntime,
+    i: usize,
+    text: &'a mut [u8],
+    image: &'a mut [u8],
+) -> Result<Table<'a>, Failure> {
     let mut name = io::buffer();
     let length = argument(rt, i, &mut name);
-    if is_readable(&name[..length]) {
-        return load_readable(rt, i, text, image);
+    if name[..length].ends_with(b".table") {
+        load_readable(rt, i, text, image)
+    } else {
+        load_image(rt, i, image)
     }
-    load_image(rt, i, image)
 }

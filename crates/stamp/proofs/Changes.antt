@@ -1,10 +1,9 @@
 -- Of two accepted images of which one is the other with a single byte changed, the stamps differ in the first number, and in the second too; with two unequal
 -- neighbours exchanged, in the second; with any two bytes changed, in one of them. The idea: a number moves by the difference of two bytes, the second once for
 -- each byte from there to the end. That is never 0, and less than 2^32 in an accepted image, so going past the top doesn't hide it.
-use Rattle.std.proofs.Common.{◌≡◌, ℕ, suc, ◌+◌, ◌-◌, ◌*◌, ◌%◌, ◌<◌, ◌≤◌, List, [], ◌∷◌, ◌++◌, length, sym, ap, ◌∙◌, append_assoc, add-mul, mul-le-mul, mul-add, arith, length-append}
+use Rattle.std.proofs.Common.{◌≡◌, ℕ, suc, ◌+◌, ◌-◌, ◌*◌, ◌%◌, ◌<◌, ◌≤◌, List, [], ◌∷◌, ◌++◌, length, Ok, sym, ap, ◌∙◌, append_assoc, add-mul, mul-le-mul, mul-add, arith, length-append}
 use native.Mathlib.Decide.{dec_lt}
 use Rattle.table.specs.Verdict.{verdict_of}
-use Rattle.table.specs.declared.Verdict.TheVariants.{Accepted}
 use Rattle.table.proofs.Largest.{accepted_fits}
 use Rattle.stamp.specs.Numbers.{sum_room}
 use Rattle.stamp.specs.Stamping.{first, second, stamping}
@@ -84,12 +83,12 @@ never_hidden m n k a b u some few moved same = go (dec_lt a b) (dec_lt b a)
     go (no x) (no y) = u.unequal (omega arith)
 
 -- the bytes from a place of an accepted image on
-few_after : (before after : List ℕ) (a : ℕ) → verdict_of (before ++ a ∷ after) ≡ Accepted → suc (length after) < 32768
+few_after : (before after : List ℕ) (a : ℕ) → verdict_of (before ++ a ∷ after) ≡ Ok tt → suc (length after) < 32768
 few_after before after a accepts = let most = accepted_fits (before ++ a ∷ after) accepts in omega (arith, length-append before (a ∷ after))
 
 -- ---- The theorems, for two accepted images
 
-module _ (image other : List ℕ) (accepts : verdict_of image ≡ Accepted) (accepts' : verdict_of other ≡ Accepted) where
+module _ (image other : List ℕ) (accepts : verdict_of image ≡ Ok tt) (accepts' : verdict_of other ≡ Ok tt) where
   same_total : first (stamping image) ≡ first (stamping other) → total image % sum_room ≡ total other % sum_room
   same_total same = sym (first_is_total image accepts) ∙ same ∙ first_is_total other accepts'
 
@@ -97,26 +96,26 @@ module _ (image other : List ℕ) (accepts : verdict_of image ≡ Accepted) (acc
   same_weighed same = sym (second_is_weighed image accepts) ∙ same ∙ second_is_weighed other accepts'
 
 -- changing a single byte changes the first
-pub one_byte_changed : (image other : List ℕ) → verdict_of image ≡ Accepted → verdict_of other ≡ Accepted → OneByteChanged image other
+pub one_byte_changed : (image other : List ℕ) → verdict_of image ≡ Ok tt → verdict_of other ≡ Ok tt → OneByteChanged image other
     → first (stamping image) ≡ first (stamping other) → ⊥
 one_byte_changed image other accepts accepts' (byte_changed before after a b u) same =
     never_hidden _ _ 1 a b u (omega arith) (omega arith) (omega (arith, total_changed before after a b)) (same_total _ _ accepts accepts' same)
 
 -- and the second
-pub one_byte_changes_second : (image other : List ℕ) → verdict_of image ≡ Accepted → verdict_of other ≡ Accepted → OneByteChanged image other
+pub one_byte_changes_second : (image other : List ℕ) → verdict_of image ≡ Ok tt → verdict_of other ≡ Ok tt → OneByteChanged image other
     → second (stamping image) ≡ second (stamping other) → ⊥
 one_byte_changes_second image other accepts accepts' (byte_changed before after a b u) same =
     never_hidden _ _ (suc (length after)) a b u (omega arith) (few_after before after a accepts) (weighed_changed before after a b)
     (same_weighed _ _ accepts accepts' same)
 
 -- exchanging two unequal neighbours changes the second
-pub neighbours_exchanged : (image other : List ℕ) → verdict_of image ≡ Accepted → verdict_of other ≡ Accepted → NeighboursExchanged image other
+pub neighbours_exchanged : (image other : List ℕ) → verdict_of image ≡ Ok tt → verdict_of other ≡ Ok tt → NeighboursExchanged image other
     → second (stamping image) ≡ second (stamping other) → ⊥
 neighbours_exchanged image other accepts accepts' (exchanged before after a b u) same =
     never_hidden _ _ 1 a b u (omega arith) (omega arith) (weighed_moved before [] after a b b a (omega arith)) (same_weighed _ _ accepts accepts' same)
 
 -- changing any two bytes changes one of the two
-pub two_bytes_changed : (image other : List ℕ) → verdict_of image ≡ Accepted → verdict_of other ≡ Accepted → TwoBytesChanged image other
+pub two_bytes_changed : (image other : List ℕ) → verdict_of image ≡ Ok tt → verdict_of other ≡ Ok tt → TwoBytesChanged image other
     → (first (stamping image) ≡ first (stamping other)) × (second (stamping image) ≡ second (stamping other)) → ⊥
 two_bytes_changed image other accepts accepts' (bytes_changed before between after a b c d u v) same =
     let t = same_total _ _ accepts accepts' same.0 in

@@ -1,16 +1,14 @@
 -- The stamps of document 01's table, of the same table with document 02's years, and of refused tables; and three changes that cancel, which a stamp
 -- doesn't show. All by computing.
-use Rattle.std.proofs.Common.{◌≡◌, ℕ, List, [], ◌∷◌, map, get_or, take, set, refl, ap, arith}
+use Rattle.std.proofs.Common.{◌≡◌, ℕ, List, [], ◌∷◌, map, get_or, take, set, Ok, refl, ap, arith}
 use Rattle.table.specs.Table.{Table, Letter, table_of}
 use Rattle.table.specs.Example.{image, dated_image}
 use Rattle.stamp.specs.Sums.{sums_from}
-use Rattle.stamp.specs.Stamping.{number, place, first, second, stamping}
-use Rattle.stamp.specs.declared.Stamped.{Stamped}
-use Rattle.stamp.specs.declared.Stamped.TheVariants.{Done}
+use Rattle.stamp.specs.Stamping.{Answer, number, place, first, second, stamping}
 use Rattle.stamp.specs.inside.Computing.{computing}
 
 -- number, place and stamp
-abbrev values : Stamped → List ℕ
+abbrev values : Answer → List ℕ
 values s = number s ∷ place s ∷ first s ∷ second s ∷ []
 
 -- the table; the same with years; with another sign for A; with the first two classes of its context exchanged; cut short; nothing at all; with no class in its
@@ -47,7 +45,7 @@ example_top = (refl, refl)
 abbrev cancelled : List ℕ
 cancelled = set (set (set image 14 2) 17 1) 20 10
 
-pub example_cancels : stamping cancelled ≡ Done 6973 708472
+pub example_cancels : stamping cancelled ≡ Ok (record { first = 6973; second = 708472 })
 unfolding computing
 example_cancels = refl
 

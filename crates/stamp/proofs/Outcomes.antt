@@ -1,19 +1,17 @@
 -- The call, case by case; and the walk over the image, byte by byte.
-use Rattle.std.proofs.Common.{◌≡◌, ℕ, ◌+◌, ◌<◌, ◌≤◌, List, length, get_or, drop, sym, refl, ap, ◌∙◌, add-one, drop_of_length-le, drop-cons}
+use Rattle.std.proofs.Common.{◌≡◌, ℕ, ◌+◌, ◌<◌, ◌≤◌, List, length, get_or, drop, Ok, Err, sym, refl, ap, ◌∙◌, add-one, drop_of_length-le, drop-cons}
 use Rattle.table.specs.Verdict.{verdict_of}
 use Rattle.table.specs.declared.Refusal.{Refusal}
-use Rattle.table.specs.declared.Verdict.TheVariants.{Accepted, Refused as NotAccepted}
 use Rattle.stamp.specs.Sums.{Sums, grown, next, sums_from, started, sums_of}
 use Rattle.stamp.specs.Stamping.{stamping}
 use Rattle.stamp.specs.Promises.{Stamps}
-use Rattle.stamp.specs.declared.Stamped.TheVariants.{Done, Refused}
 
 module _ (image : List ℕ) where
-  pub stamp_refused : (r : Refusal) → verdict_of image ≡ NotAccepted r → stamping image ≡ Refused r
+  pub stamp_refused : (r : Refusal) → verdict_of image ≡ Err r → stamping image ≡ Err r
   unfolding stamping
   stamp_refused r v = rw (v, stamping)
 
-  pub stamp_done : verdict_of image ≡ Accepted → stamping image ≡ Done (sums_of image).first (sums_of image).second
+  pub stamp_done : verdict_of image ≡ Ok tt → stamping image ≡ Ok (record { first = (sums_of image).first; second = (sums_of image).second })
   unfolding stamping
   stamp_done v = rw (v, stamping)
 
@@ -40,9 +38,9 @@ module _ (image : List ℕ) where
       ap (λ (x : Sums). sums_from x (drop (i + 1) image)) moved ∙ sym read ∙ walked
 
   -- no byte is left
-  pub walk_ends : (sums : Sums) (i : ℕ) → verdict_of image ≡ Accepted → length image ≤ i → Walked sums i → Stamps image (Done sums.first sums.second)
+  pub walk_ends : (sums : Sums) (i : ℕ) → verdict_of image ≡ Ok tt → length image ≤ i → Walked sums i → Stamps image (Ok (record { first = sums.first; second = sums.second }))
   unfolding sums_from
   walk_ends sums i accepts over walked =
       let none_left : sums_from sums (drop i image) ≡ sums = rw (drop_of_length-le image over) refl in
       let whole : sums ≡ sums_of image = sym none_left ∙ walked in
-      record { is = ap (λ (x : Sums). Done x.first x.second) whole ∙ sym (stamp_done accepts) }
+      record { is = ap (λ (x : Sums). Ok (record { first = x.first; second = x.second })) whole ∙ sym (stamp_done accepts) }

@@ -1,11 +1,10 @@
 -- 'Refusals: the table checks; a refused image has the stamp 0 and 0.' A refusal is the answer exactly when its line of the table holds and no earlier one does.
-use Rattle.std.proofs.Common.{◌≡◌, ℕ, ◌<◌, ◌↔◌, List, sym, refl, ap, ◌∙◌, arith}
+use Rattle.std.proofs.Common.{◌≡◌, ℕ, ◌<◌, ◌↔◌, List, Ok, Err, sym, refl, ap, ◌∙◌, arith}
 use Rattle.table.specs.Numbers.{number_done}
 use Rattle.table.specs.FirstLine.{FirstLine}
 use Rattle.table.specs.Refusals.{Line, verdict_number, verdict_place}
 use Rattle.table.specs.Verdict.{verdict_of}
-use Rattle.table.specs.declared.Verdict.{Verdict}
-use Rattle.table.specs.declared.Verdict.TheVariants.{Accepted, Refused as NotAccepted}
+use Rattle.table.specs.Answers.{Verdict}
 use Rattle.table.proofs.Refusals.{answer_exactly_when, answer_0_exactly_when}
 use Rattle.stamp.specs.Numbers.{no_stamp}
 use Rattle.stamp.specs.Stamping.{number, place, first, second, stamping}
@@ -18,8 +17,8 @@ module _ (image : List ℕ) where
     where
       go : (v : Verdict) → verdict_of image ≡ v
           → (number (stamping image) ≡ verdict_number (verdict_of image)) × (place (stamping image) ≡ verdict_place (verdict_of image))
-      go (NotAccepted r) e = (ap number (stamp_refused image r e) ∙ sym (ap verdict_number e), ap place (stamp_refused image r e) ∙ sym (ap verdict_place e))
-      go Accepted e = (ap number (stamp_done image e) ∙ sym (ap verdict_number e), ap place (stamp_done image e) ∙ sym (ap verdict_place e))
+      go (Err r) e = (ap number (stamp_refused image r e) ∙ sym (ap verdict_number e), ap place (stamp_refused image r e) ∙ sym (ap verdict_place e))
+      go (Ok tt) e = (ap number (stamp_done image e) ∙ sym (ap verdict_number e), ap place (stamp_done image e) ∙ sym (ap verdict_place e))
 
   abbrev Answers : ℕ → ℕ → Type 0
   Answers n p = (number (stamping image) ≡ n) × (place (stamping image) ≡ p)
@@ -43,5 +42,5 @@ module _ (image : List ℕ) where
   refused_has_none h = go (verdict_of image) refl
     where
       go : (v : Verdict) → verdict_of image ≡ v → (first (stamping image) ≡ no_stamp) × (second (stamping image) ≡ no_stamp)
-      go (NotAccepted r) e = (ap first (stamp_refused image r e), ap second (stamp_refused image r e))
-      go Accepted e = let n = ap number (stamp_done image e) in absurd (omega arith)
+      go (Err r) e = (ap first (stamp_refused image r e), ap second (stamp_refused image r e))
+      go (Ok tt) e = let n = ap number (stamp_done image e) in absurd (omega arith)

@@ -1,13 +1,12 @@
 -- The two numbers of a stamp are the sum of the bytes, and the sum of each byte times the number of bytes from it to the end, both modulo 2^32; the first never
 -- comes so far, and is never 0. The idea: sums that go past the top on the way are the sums that go past it at the end; and what the first has already is added to the second
 -- once for each byte.
-use Rattle.std.proofs.Common.{◌≡◌, ℕ, zero, suc, ◌+◌, ◌*◌, ◌%◌, ◌<◌, ◌≤◌, List, [], ◌∷◌, length, get_or, ap, ◌∙◌, mod-eq_of_lt, suc-mul, mul-add, arith}
+use Rattle.std.proofs.Common.{◌≡◌, ℕ, zero, suc, ◌+◌, ◌*◌, ◌%◌, ◌<◌, ◌≤◌, List, [], ◌∷◌, length, get_or, Ok, ap, ◌∙◌, mod-eq_of_lt, suc-mul, mul-add, arith}
 use native.Mathlib.Nat.{mod-add-mod, add-mod-mod}
 use Rattle.table.specs.Numbers.{first_mark_byte, low_byte_room}
 use Rattle.table.specs.Lists.{All, empty, ◌and◌}
 use Rattle.table.specs.Sections.{byte_at, trailer_at}
 use Rattle.table.specs.Verdict.{verdict_of}
-use Rattle.table.specs.declared.Verdict.TheVariants.{Accepted}
 use Rattle.table.proofs.Refusals.{accepted}
 use Rattle.table.proofs.Largest.{accepted_fits}
 use Rattle.stamp.specs.Numbers.{sum_room}
@@ -48,11 +47,11 @@ unfolding sums_of
 sums_weighed bytes = sums_from_lem 0 0 bytes ∙ wrapped_same (omega arith) (omega arith)
 
 -- the first number of a stamp is the sum of the bytes, modulo 2^32
-pub first_is_total : (image : List ℕ) → verdict_of image ≡ Accepted → first (stamping image) ≡ total image % sum_room
+pub first_is_total : (image : List ℕ) → verdict_of image ≡ Ok tt → first (stamping image) ≡ total image % sum_room
 first_is_total image accepts = ap first (stamp_done image accepts) ∙ ap (λ (sums : Sums). sums.first) (sums_weighed image)
 
 -- and the second the sum of each byte times the bytes from it to the end, itself counted in, modulo 2^32
-pub second_is_weighed : (image : List ℕ) → verdict_of image ≡ Accepted → second (stamping image) ≡ weighed image % sum_room
+pub second_is_weighed : (image : List ℕ) → verdict_of image ≡ Ok tt → second (stamping image) ≡ weighed image % sum_room
 second_is_weighed image accepts = ap second (stamp_done image accepts) ∙ ap (λ (sums : Sums). sums.second) (sums_weighed image)
 
 -- ---- The first number of an accepted image never goes past the top, and is never 0
@@ -62,7 +61,7 @@ unfolding total
 total_most [] empty = omega arith
 total_most (byte ∷ bytes) (b and small) = omega (arith, total_most bytes small)
 
-pub first_in_full : (image : List ℕ) → All (λ (b : ℕ). b < low_byte_room) image → verdict_of image ≡ Accepted → first (stamping image) ≡ total image
+pub first_in_full : (image : List ℕ) → All (λ (b : ℕ). b < low_byte_room) image → verdict_of image ≡ Ok tt → first (stamping image) ≡ total image
 first_in_full image small accepts =
     let most = total_most image small in
     let fits = accepted_fits image accepts in
@@ -75,7 +74,7 @@ total_least (byte ∷ bytes) zero = omega arith
 total_least (byte ∷ bytes) (suc i) = omega (arith, total_least bytes i)
 
 -- so 0 and 0 is the stamp of refused images alone
-pub accepted_has_one : (image : List ℕ) → All (λ (b : ℕ). b < low_byte_room) image → verdict_of image ≡ Accepted → 0 < first (stamping image)
+pub accepted_has_one : (image : List ℕ) → All (λ (b : ℕ). b < low_byte_room) image → verdict_of image ≡ Ok tt → 0 < first (stamping image)
 unfolding byte_at
 accepted_has_one image small accepts =
     let mark = ((accepted image).0 accepts).0.first_mark_lem in

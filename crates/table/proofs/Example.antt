@@ -14,7 +14,7 @@ use Rattle.table.specs.Grouping.{first_break}
 use Rattle.table.specs.Verdict.{verdict_of}
 use Rattle.table.specs.Refusals.{verdict_number, verdict_place}
 use Rattle.table.specs.Example.{image, table, dated_image, dated_table, ascii}
-use Rattle.table.specs.declared.Verdict.TheVariants.{Accepted}
+use Rattle.std.specs.Prelude.{Ok}
 
 -- all six dots, none, and the letters A, C and E of the table
 cells_by_dots :
@@ -29,7 +29,7 @@ pub image_distances : map (distance image) (0 ∷ 1 ∷ 2 ∷ 3 ∷ 4 ∷ []) �
 unfolding computing
 image_distances = refl
 
-pub image_accepted : verdict_of image ≡ Accepted
+pub image_accepted : verdict_of image ≡ (Ok tt)
 unfolding computing
 image_accepted = refl
 
@@ -46,7 +46,7 @@ pub dated_distances : map (distance dated_image) (0 ∷ 1 ∷ 2 ∷ 3 ∷ 4 ∷ 
 unfolding computing
 dated_distances = refl
 
-pub dated_accepted : verdict_of dated_image ≡ Accepted
+pub dated_accepted : verdict_of dated_image ≡ (Ok tt)
 unfolding computing
 dated_accepted = refl
 
@@ -238,6 +238,6 @@ unfolding computing
 grouping_read = refl
 
 -- $P, $PA, $P in an image
-padding_not_compared : verdict_of (sets (sets image entry_l (3 ∷ 36 ∷ 80 ∷ 65 ∷ [])) (entry_l + 18) (2 ∷ 36 ∷ 80 ∷ [])) ≡ Accepted
+padding_not_compared : verdict_of (sets (sets image entry_l (3 ∷ 36 ∷ 80 ∷ 65 ∷ [])) (entry_l + 18) (2 ∷ 36 ∷ 80 ∷ [])) ≡ (Ok tt)
 unfolding computing
 padding_not_compared = refl

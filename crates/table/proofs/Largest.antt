@@ -11,7 +11,7 @@ use Rattle.table.specs.Numbers.{entry_size}
 use Rattle.table.specs.Sections.{is_dated}
 use Rattle.table.specs.Refusals.{WholeRecords, FrameRight, EntryForm, old_form, new_form}
 use Rattle.table.specs.Verdict.{verdict_of}
-use Rattle.table.specs.declared.Verdict.TheVariants.{Accepted}
+use Rattle.std.specs.Prelude.{Ok}
 use Rattle.table.proofs.Forms.{undated_size, form_size}
 use Rattle.table.proofs.Refusals.{accepted}
 
@@ -50,5 +50,5 @@ module _ (image : List ℕ) (f : FrameRight image) where
       by_form (new_form e) = omega arith
 
 -- 'the first 32,768 of the table file, which no right image reaches'
-pub accepted_fits : (image : List ℕ) → verdict_of image ≡ Accepted → length image < 32768
+pub accepted_fits : (image : List ℕ) → verdict_of image ≡ (Ok tt) → length image < 32768
 accepted_fits image accepts = let most = largest image ((accepted image).0 accepts).0 in omega arith

@@ -30,7 +30,7 @@ use Rattle.table.specs.Verdict.{verdict_of}
 use Rattle.table.specs.Laid.{SectionsLaid}
 use Rattle.table.specs.declared.Section.{Section}
 use Rattle.table.specs.declared.Sections.{Sections}
-use Rattle.table.specs.declared.Verdict.TheVariants.{Accepted}
+use Rattle.std.specs.Prelude.{Ok}
 use Rattle.table.proofs.Lists.{length_list_of, get_or_list_of, get_or_there}
 use Rattle.table.proofs.Forms.{entry_long}
 use Rattle.table.proofs.Frame.{frame_right_lem, sections_framed}
@@ -168,7 +168,7 @@ module _ (image : List ℕ) (s : Sections) (laid : SectionsLaid image s) (right 
 
 -- ---- An accepted image
 
-module _ (image : List ℕ) (accepts : verdict_of image ≡ Accepted) where
+module _ (image : List ℕ) (accepts : verdict_of image ≡ (Ok tt)) where
   abbrev s : Sections
   s = sections_of image
 

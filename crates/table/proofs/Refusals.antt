@@ -20,8 +20,8 @@ use Rattle.table.specs.Refusals.{verdict_number, verdict_place, FrameRight, InAl
 use Rattle.table.specs.declared.Sections.{Sections}
 use Rattle.table.specs.declared.Refusal.{Refusal}
 use Rattle.table.specs.declared.Refusal.TheVariants.{Frame, NoBlank, Grouping}
-use Rattle.table.specs.declared.Verdict.{Verdict}
-use Rattle.table.specs.declared.Verdict.TheVariants.{Accepted, Refused}
+use Rattle.table.specs.Answers.{Verdict}
+use Rattle.std.specs.Prelude.{Ok, Err}
 use Rattle.table.proofs.Tests.{decided_by, fails_law}
 use Rattle.table.proofs.Frame.{frame_right_lem}
 use Rattle.table.proofs.RightRecords.{tells_in_alphabet}
@@ -78,7 +78,7 @@ module _ (image : List ℕ) where
 
   -- ---- Each check: where its line holds it refuses, and otherwise it hands on to the next
 
-  frame_refused : Refusal1 image → verdict_of image ≡ Refused Frame
+  frame_refused : Refusal1 image → verdict_of image ≡ Err Frame
   unfolding verdict_of
   frame_refused h = rw ((fails_law (frame_right_lem image)).1 h, verdict_of)
 
@@ -86,16 +86,16 @@ module _ (image : List ℕ) where
   unfolding verdict_of
   frame_passed h = rw ((frame_right_lem image).1 (no_refusal_1.0 h), verdict_of)
 
-  record_refused : (name : SectionName) (at : ℕ) → WrongAt image name at → records_verdict image s ≡ Refused (refusal_in name at)
+  record_refused : (name : SectionName) (at : ℕ) → WrongAt image name at → records_verdict image s ≡ Err (refusal_in name at)
   unfolding records_verdict
   record_refused name at r =
-      rw (first_wrong_is image s name r.index r.byte r.first_wrong_lem, records_verdict) (ap (λ (p : ℕ). Refused (refusal_in name p)) (sym r.place))
+      rw (first_wrong_is image s name r.index r.byte r.first_wrong_lem, records_verdict) (ap (λ (p : ℕ). Err (refusal_in name p)) (sym r.place))
 
   records_passed : NoneWrong → records_verdict image s ≡ blank_verdict image s
   unfolding records_verdict
   records_passed h = rw (none_of_right image s (no_wrong_record.0 h), records_verdict)
 
-  blank_refused : Refusal3 image → blank_verdict image s ≡ Refused NoBlank
+  blank_refused : Refusal3 image → blank_verdict image s ≡ Err NoBlank
   unfolding blank_verdict
   blank_refused h = rw ((fails_law (tells_in_alphabet image s blank)).1 h, blank_verdict)
 
@@ -103,11 +103,11 @@ module _ (image : List ℕ) where
   unfolding blank_verdict
   blank_passed h = rw ((tells_in_alphabet image s blank).1 (no_refusal_3.0 h), blank_verdict)
 
-  grouping_refused : (at : ℕ) → Refusal4 image at → grouping_verdict image s ≡ Refused (Grouping at)
+  grouping_refused : (at : ℕ) → Refusal4 image at → grouping_verdict image s ≡ Err (Grouping at)
   unfolding grouping_verdict
   grouping_refused at r = rw (first_break_is (strings_in image) r.index r.first_to_break, grouping_verdict) (cc r.place)
 
-  grouping_passed : ((at : ℕ) → Refusal4 image at → ⊥) → grouping_verdict image s ≡ Accepted
+  grouping_passed : ((at : ℕ) → Refusal4 image at → ⊥) → grouping_verdict image s ≡ (Ok tt)
   unfolding grouping_verdict
   grouping_passed h = rw (none_of_grouped (strings_in image) (no_refusal_4.0 h), grouping_verdict)
 
@@ -216,8 +216,8 @@ module _ (image : List ℕ) where
 
   -- what a verdict tells: the line that holds first, or that none does
   pub data VerdictTold : Verdict → Type 0 where
-    table_refused : {r : Refusal} → 0 < refusal_number r → FirstLine (Line image) (refusal_number r) (refusal_place r) → VerdictTold (Refused r)
-    table_accepted : ((t n p : ℕ) → Line image t n p → ⊥) → VerdictTold Accepted
+    table_refused : {r : Refusal} → 0 < refusal_number r → FirstLine (Line image) (refusal_number r) (refusal_place r) → VerdictTold (Err r)
+    table_accepted : ((t n p : ℕ) → Line image t n p → ⊥) → VerdictTold (Ok tt)
 
   record_number : (name : SectionName) (at : ℕ) → 0 < refusal_number (refusal_in name at)
   record_number alphabet at = omega arith
@@ -262,19 +262,19 @@ module _ (image : List ℕ) where
           (table_accepted (none_at_all passed right there grouped))
 
   -- the table is accepted exactly where no line holds
-  pub accepted_exactly_when : (verdict_of image ≡ Accepted) ↔ ((t n p : ℕ) → Line image t n p → ⊥)
+  pub accepted_exactly_when : (verdict_of image ≡ (Ok tt)) ↔ ((t n p : ℕ) → Line image t n p → ⊥)
   accepted_exactly_when = (λ e. forth (subst VerdictTold e verdict_told), λ no_line. back (verdict_of image) refl verdict_told no_line)
     where
-      forth : VerdictTold Accepted → (t n p : ℕ) → Line image t n p → ⊥
+      forth : VerdictTold (Ok tt) → (t n p : ℕ) → Line image t n p → ⊥
       forth (table_accepted no_line) = no_line
 
-      back : (v : Verdict) → verdict_of image ≡ v → VerdictTold v → ((t n p : ℕ) → Line image t n p → ⊥) → verdict_of image ≡ Accepted
-      back (Refused r) e (table_refused h f) no_line = absurd (no_line f.turn _ _ f.line)
-      back Accepted e (table_accepted no_line) none_holds = e
+      back : (v : Verdict) → verdict_of image ≡ v → VerdictTold v → ((t n p : ℕ) → Line image t n p → ⊥) → verdict_of image ≡ (Ok tt)
+      back (Err r) e (table_refused h f) no_line = absurd (no_line f.turn _ _ f.line)
+      back (Ok tt) e (table_accepted no_line) none_holds = e
 
   -- and exactly where it is right in every way
   pub accepted :
-      (verdict_of image ≡ Accepted) ↔ (FrameRight image × RecordsRight image s × InAlphabet image s blank × Grouped (strings_in image))
+      (verdict_of image ≡ (Ok tt)) ↔ (FrameRight image × RecordsRight image s × InAlphabet image s blank × Grouped (strings_in image))
   accepted = (
     λ e.
         let none_holds = accepted_exactly_when.0 e in (

@@ -7,7 +7,7 @@ use native.Mathlib.Decide.{ℕ_discrete, dec_lt}
 use native.Mathlib.Omega.{arith}
 use Rattle.table.specs.Search.{first_from}
 use Rattle.table.specs.inside.Found.{found}
-use Rattle.table.specs.declared.Found.TheVariants.{At, Nothing}
+use Rattle.std.specs.Prelude.{Some, None}
 
 -- `k` is the first of the `n` numbers from `i` on that passes
 pub record FirstOf (test : ℕ → Bool) (i n k : ℕ) : Type 0 where
@@ -133,10 +133,10 @@ first_same f g n same = go (first_from g 0 n) refl
 
 -- ---- What the code answers tells what the search finds
 
-pub found_at : (o : Option ℕ) (k : ℕ) → found o ≡ At k → o ≡ some k
+pub found_at : (o : Option ℕ) (k : ℕ) → found o ≡ Some k → o ≡ some k
 found_at none k e = let z : ◌≡◌ {A = ℕ} 0 1 = cc in absurd (omega arith)
 found_at (some j) k e = cc
 
-pub found_nothing : (o : Option ℕ) → found o ≡ Nothing → o ≡ none
+pub found_nothing : (o : Option ℕ) → found o ≡ None → o ≡ none
 found_nothing none e = refl
 found_nothing (some j) e = let z : ◌≡◌ {A = ℕ} 0 1 = cc in absurd (omega arith)

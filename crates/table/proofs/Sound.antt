@@ -21,7 +21,7 @@ use Rattle.table.specs.Laid.{SectionsLaid}
 use Rattle.table.specs.Sound.{EachOf, SoundLetter, SoundEntry, Always, SoundContext, SoundTransition, SoundColumn, Sound}
 use Rattle.table.specs.declared.Section.{Section}
 use Rattle.table.specs.declared.Sections.{Sections}
-use Rattle.table.specs.declared.Verdict.TheVariants.{Accepted}
+use Rattle.std.specs.Prelude.{Ok}
 use Rattle.table.proofs.Lists.{length_list_of, get_or_list_of}
 use Rattle.table.proofs.Forms.{undated_years}
 use Rattle.table.proofs.Frame.{undated_section}
@@ -176,7 +176,7 @@ module _ (image : List ℕ) (s : Sections) (laid : SectionsLaid image s) (right 
 
 -- ---- The table of an accepted image
 
-pub accepted_sound : (image : List ℕ) → verdict_of image ≡ Accepted → Sound (sections_of image).classes (sections_of image).variables (table_of image)
+pub accepted_sound : (image : List ℕ) → verdict_of image ≡ (Ok tt) → Sound (sections_of image).classes (sections_of image).variables (table_of image)
 unfolding table_of
 accepted_sound image accepts =
     let h = (accepted image).0 accepts in

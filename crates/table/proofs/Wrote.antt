@@ -1,12 +1,15 @@
 -- Laws of bytes that are written to a buffer: one run after another is one run, and one byte more is a run that is one longer.
-use Prim.Native.Nat.{ℕ, suc, ◌+◌, ◌<◌}
-use mathlib.Core.List.{List, [], ◌∷◌, ◌++◌}
+use Prim.Native.Nat.{ℕ, suc, ◌+◌, ◌-◌, ◌≤◌, ◌<◌}
+use mathlib.Core.List.{List, [], ◌∷◌, ◌++◌, append_assoc}
 use mathlib.Core.Path.{◌≡◌, sym, ◌∙◌, ap}
 use native.Mathlib.Nat.{add-zero}
 use native.Mathlib.Numerals.{add-one}
 use native.Mathlib.Omega.{arith}
 use lib.ListN.{length, get_or, set, take, replicate, length-replicate, replicate-append-replicate}
-use lib.Seq.{sets, length-sets, take-suc, length-take-le}
+use borrow.Rule.Slice.PartMut.{put_mid}
+use lib.Seq.{sets, length-sets, sets-eq, take-suc, length-take-le}
+use Rattle.std.proofs.lemmas.List.Edits.{paste_all}
+use Rattle.std.proofs.lemmas.Slice.{put_mid-paste}
 use Rattle.table.specs.inside.Wrote.{Wrote}
 
 pub sets_append : (l : List ℕ) (i : ℕ) (xs ys : List ℕ) → sets (sets l i xs) (i + length xs) ys ≡ sets l i (xs ++ ys)
@@ -36,6 +39,17 @@ same_more l at j byte =
     ap (λ (k : ℕ). set (sets l at (replicate j byte)) (at + k) byte) (sym (length-replicate j byte))
     ∙ sets_append l at (replicate j byte) (byte ∷ [])
     ∙ ap (λ (r : List ℕ). sets l at r) (replicate-append-replicate j 1 byte)
+
+-- a run that is written into the part from `at` up to `end`, as `fill` and `copy_from_slice` leave it
+pub run_written : (before part : List ℕ) (at end : ℕ) (bytes : List ℕ) → part ≡ bytes → at + length bytes ≡ end → end ≤ length before
+    → Wrote before at bytes (put_mid at (end - at) before part)
+run_written before part at end bytes e f h =
+    record {
+      leaves =
+          put_mid-paste at (end - at) before part bytes (length bytes) e (omega arith) (omega arith)
+          ∙ paste_all before at bytes (length bytes) (omega arith)
+          ∙ sym (rw append_assoc at (sets-eq bytes before at (omega arith)));
+    }
 
 -- what is written changes no length
 pub wrote_length : {before bytes after : List ℕ} {at : ℕ} → Wrote before at bytes after → length after ≡ length before

@@ -1,6 +1,6 @@
 -- 'What comes back', for the calls of every layer: the number and the place of each refusal.
-use Rattle.std.specs.Prelude.{ℕ}
-use Rattle.table.specs.Numbers.{number_frame, number_alphabet, number_contractions, number_contexts, number_transitions, number_decisions, number_no_blank, number_grouping, number_size, number_long_text, number_unknown, number_following, number_file, number_dated, number_room, no_place, most_text}
+use Rattle.std.specs.Prelude.{ℕ, Result, Ok, Err}
+use Rattle.table.specs.Numbers.{number_done, number_frame, number_alphabet, number_contractions, number_contexts, number_transitions, number_decisions, number_no_blank, number_grouping, number_size, number_long_text, number_unknown, number_following, number_file, number_dated, number_room, no_place, most_text}
 use Rattle.table.specs.declared.Refusal.{Refusal}
 use Rattle.table.specs.declared.Refusal.TheVariants as why
 
@@ -37,3 +37,17 @@ refusal_place why.Following = no_place
 refusal_place (why.File at) = at
 refusal_place (why.Dated at) = at
 refusal_place (why.Room needed) = needed
+
+-- what a check answers: that all is right, or the refusal
+abbrev pub Verdict : Type 0
+Verdict = Result (Unit {0}) Refusal
+
+-- the number and the place of an answer, by those of its refusal: 0 and 0 where the call is done
+module _ {T R : Type 0} where
+  abbrev pub number_in : (R → ℕ) → Result T R → ℕ
+  number_in number (Ok done) = number_done
+  number_in number (Err refusal) = number refusal
+
+  abbrev pub place_in : (R → ℕ) → Result T R → ℕ
+  place_in place (Ok done) = no_place
+  place_in place (Err refusal) = place refusal

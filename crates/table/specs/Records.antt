@@ -7,6 +7,8 @@ use Rattle.table.specs.Search.{within, first, is_there, list_of, member}
 use Rattle.table.specs.Sections.{record_byte, first_year, last_year}
 use Rattle.table.specs.declared.Section.{Section}
 use Rattle.table.specs.declared.Sections.{Sections}
+pub use Rattle.table.specs.declared.SectionName.{SectionName}
+pub use Rattle.table.specs.declared.SectionName.TheVariants.{Alphabet as alphabet, Contractions as contractions, Contexts as contexts, Transitions as transitions, Decisions as decisions}
 
 -- ---- What a byte may be
 
@@ -60,7 +62,7 @@ letter_rule image s k =
 
 -- of ten string bytes, those below the length are characters of the alphabet, and the others 0
 unfoldable pub right_string_byte : List ℕ → ℕ → ℕ → ℕ → Bool
-right_string_byte alphabet len i c = cond (ltb i len) (member c alphabet) (eqb c padding)
+right_string_byte among len i c = cond (ltb i len) (member c among) (eqb c padding)
 
 -- a right context that exists, and 0 where the length is 10
 unfoldable pub right_context_byte : Sections → ℕ → ℕ → Bool
@@ -100,9 +102,6 @@ unfoldable pub right_record : List Bool → Bool
 right_record rule = not (is_there (wrong_byte rule))
 
 -- ---- The first wrong record in image order, with its section and its first wrong byte
-
-pub data SectionName : Type 0 where
-  alphabet contractions contexts transitions decisions : SectionName
 
 unfoldable pub section_named : Sections → SectionName → Section
 section_named s alphabet = s.alphabet

@@ -2,17 +2,15 @@
 -- conjunction of the paper's conditions, of a record and of each of its bytes, and 'first' is a quantifier. proofs/Refusals.antt shows that a refusal is
 -- given exactly where its line holds and no earlier one does.
 use Rattle.std.specs.Prelude.{ℕ, ◌+◌, ◌-◌, ◌*◌, ◌≤◌, ◌<◌, List, [], ◌∷◌, ◌++◌, ◌⊎◌, ◌≡◌, length, get_or}
-use Rattle.table.specs.Numbers.{other_blank, no_cell, sign_line_end, sign_page_end, trailer_size, first_mark_byte, second_mark_byte, first_mark, second_mark, dated_mark, least_classes, most_classes, most_variables, letter_size, least_letters, most_letters, entry_size, dated_entry_size, least_entries, most_entries, context_size, least_contexts, most_contexts, least_columns, most_columns, least_class, symbol_byte, letter_class_byte, letter_sign_byte, length_byte, string_byte, context_byte, entry_class_byte, shift_byte, signs_byte, least_length, most_length, padding, no_context, least_shift, entry_signs, least_symbol, most_symbol, blank, bar, turn_no, turn_yes, turn_other, accepts, rejects, byte_yes, byte_no, dash, number_done, number_frame, number_alphabet, number_contractions, number_contexts, number_transitions, number_decisions, number_no_blank, number_grouping, no_place}
+use Rattle.table.specs.Numbers.{other_blank, no_cell, sign_line_end, sign_page_end, trailer_size, first_mark_byte, second_mark_byte, first_mark, second_mark, dated_mark, least_classes, most_classes, most_variables, letter_size, least_letters, most_letters, entry_size, dated_entry_size, least_entries, most_entries, context_size, least_contexts, most_contexts, least_columns, most_columns, least_class, symbol_byte, letter_class_byte, letter_sign_byte, length_byte, string_byte, context_byte, entry_class_byte, shift_byte, signs_byte, least_length, most_length, padding, no_context, least_shift, entry_signs, least_symbol, most_symbol, blank, bar, turn_no, turn_yes, turn_other, accepts, rejects, byte_yes, byte_no, dash, number_frame, number_alphabet, number_contractions, number_contexts, number_transitions, number_decisions, number_no_blank, number_grouping, no_place}
 use Rattle.table.specs.Search.{list_of}
 use Rattle.table.specs.Sections.{byte_at, trailer_at, distance, classes_in, variables_in, sections_in, offset, record_byte, first_year, last_year}
 use Rattle.table.specs.Records.{SectionName, alphabet, contractions, contexts, transitions, decisions, section_named}
 use Rattle.table.specs.Table.{Letter, table_in}
 use Rattle.table.specs.Grouped.{FirstToBreak}
 use Rattle.table.specs.Verdict.{strings}
-use Rattle.table.specs.Answers.{refusal_number, refusal_place}
+use Rattle.table.specs.Answers.{refusal_number, refusal_place, Verdict, number_in, place_in}
 use Rattle.table.specs.declared.Sections.{Sections}
-use Rattle.table.specs.declared.Verdict.{Verdict}
-use Rattle.table.specs.declared.Verdict.TheVariants.{Accepted, Refused}
 
 -- `n` is one of `least` to `most`
 pub record Between (least most n : ℕ) : Type 0 where
@@ -259,12 +257,10 @@ pub data Line (image : List ℕ) : ℕ → ℕ → ℕ → Type 0 where
 -- ---- The number and the place of a verdict
 
 abbrev pub verdict_number : Verdict → ℕ
-verdict_number Accepted = number_done
-verdict_number (Refused r) = refusal_number r
+verdict_number = number_in refusal_number
 
 abbrev pub verdict_place : Verdict → ℕ
-verdict_place Accepted = no_place
-verdict_place (Refused r) = refusal_place r
+verdict_place = place_in refusal_place
 
 -- ---- The alphabet of a table
 

@@ -1,6 +1,6 @@
 -- 'What comes back', the answers about a table: the verdict on an image. The checks are made in the paper's order: the frame, the records of each section,
 -- the blank, the grouping.
-use Rattle.std.specs.Prelude.{ℕ, ◌+◌, true, false, List, map}
+use Rattle.std.specs.Prelude.{ℕ, ◌+◌, true, false, List, map, Ok, Err}
 use Rattle.std.proofs.Math.Option.{none, some}
 use Rattle.table.specs.Numbers.{blank}
 use Rattle.table.specs.Search.{member}
@@ -8,11 +8,10 @@ use Rattle.table.specs.Sections.{frame_right, sections_in, offset}
 use Rattle.table.specs.Records.{symbols, SectionName, alphabet, contractions, contexts, transitions, decisions, first_wrong, section_named}
 use Rattle.table.specs.Table.{Table, Entry, table_in}
 use Rattle.table.specs.Grouping.{first_break}
+use Rattle.table.specs.Answers.{Verdict}
 use Rattle.table.specs.declared.Sections.{Sections}
 use Rattle.table.specs.declared.Refusal.{Refusal}
 use Rattle.table.specs.declared.Refusal.TheVariants.{Frame, Alphabet, Contraction, Context, Transition, Decision, NoBlank, Grouping}
-use Rattle.table.specs.declared.Verdict.{Verdict}
-use Rattle.table.specs.declared.Verdict.TheVariants.{Accepted, Refused}
 
 unfoldable pub strings : Table → List (List ℕ)
 strings table = map (λ (e : Entry). e.string) table.entries
@@ -20,11 +19,11 @@ strings table = map (λ (e : Entry). e.string) table.entries
 -- grouping broken: at the offset of the first record that breaks it
 unfoldable pub grouping_verdict : List ℕ → Sections → Verdict
 grouping_verdict image s =
-    elim (first_break (strings (table_in image s))) [ none ↦ Accepted | some r ↦ Refused (Grouping (offset s.contractions r)) ]
+    elim (first_break (strings (table_in image s))) [ none ↦ Ok tt | some r ↦ Err (Grouping (offset s.contractions r)) ]
 
 -- no alphabet record for blank
 unfoldable pub blank_verdict : List ℕ → Sections → Verdict
-blank_verdict image s = elim (member blank (symbols image s)) [ true ↦ grouping_verdict image s | false ↦ Refused NoBlank ]
+blank_verdict image s = elim (member blank (symbols image s)) [ true ↦ grouping_verdict image s | false ↦ Err NoBlank ]
 
 -- a wrong record is refused by its section
 abbrev pub refusal_in : SectionName → ℕ → Refusal
@@ -39,8 +38,8 @@ unfoldable pub records_verdict : List ℕ → Sections → Verdict
 records_verdict image s =
     elim (first_wrong image s) [
       | none ↦ blank_verdict image s
-      | some w ↦ Refused (refusal_in w.section (offset (section_named s w.section) w.index + w.byte))
+      | some w ↦ Err (refusal_in w.section (offset (section_named s w.section) w.index + w.byte))
     ]
 
 unfoldable pub verdict_of : List ℕ → Verdict
-verdict_of image = elim (frame_right image) [ true ↦ records_verdict image (sections_in image) | false ↦ Refused Frame ]
+verdict_of image = elim (frame_right image) [ true ↦ records_verdict image (sections_in image) | false ↦ Err Frame ]

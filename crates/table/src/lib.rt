@@ -7,9 +7,11 @@
 
 mod refusing;
 
+pub use refusing::{Numbered, number_of, place_of};
+
 // One section of the image: the offset of its first byte, the bytes of one record, and how many
 // records it has.
-#[derive(Clone, Copy)]
+#[derive(Clone, Copy, Debug, PartialEq, Eq)]
 pub struct Section {
     pub start: u16,
     pub size: u16,
@@ -18,7 +20,7 @@ pub struct Section {
 
 // The five sections of an image, in the order in which they lie, and the two numbers of the
 // trailer.
-#[derive(Clone, Copy)]
+#[derive(Clone, Copy, Debug, PartialEq, Eq)]
 pub struct Sections {
     pub alphabet: Section,
     pub contractions: Section,
@@ -29,8 +31,18 @@ pub struct Sections {
     pub variables: u16,
 }
 
+// The five sections by name, in image order.
+#[derive(Clone, Copy, Debug, PartialEq, Eq)]
+pub enum SectionName {
+    Alphabet,
+    Contractions,
+    Contexts,
+    Transitions,
+    Decisions,
+}
+
 // The years in which an entry is in force, both counted in.
-#[derive(Clone, Copy)]
+#[derive(Clone, Copy, Debug, PartialEq, Eq)]
 pub struct Years {
     pub first: u16,
     pub last: u16,
@@ -38,7 +50,7 @@ pub struct Years {
 
 // Why a call is refused, whichever it is: the paper's table of refusals, each with its place where
 // that isn't fixed.
-#[derive(Clone, Copy)]
+#[derive(Clone, Copy, Debug, PartialEq, Eq)]
 pub enum Refusal {
     Frame,
     Alphabet(usize),
@@ -55,19 +67,4 @@ pub enum Refusal {
     File(usize),
     Dated(usize),
     Room(usize),
-}
-
-// What a check of an image answers.
-#[derive(Clone, Copy)]
-pub enum Verdict {
-    Accepted,
-    Refused(Refusal),
-}
-
-// What a search answers: the number of a record in its section, of a byte in its record, or a place
-// of a text.
-#[derive(Clone, Copy)]
-pub enum Found {
-    At(u16),
-    Nothing,
 }

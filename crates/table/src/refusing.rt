@@ -1,14 +1,31 @@
-// The paper's table of refusals: the number and the place of each, for the calls of every layer.
+// The paper's table of refusals: the number and the place of each, and those of an answer, for the
+// calls of every layer.
 
-ghost use Rattle.table.specs.Promises.{RefusalNumber, RefusalPlace};
+ghost use Rattle.std.specs.Prelude.{ℕ};
+ghost use Rattle.table.specs.Answers.{refusal_number, refusal_place, number_in, place_in};
+ghost use Rattle.table.specs.Promises.{Tells};
 
 use crate::Refusal;
 
-impl Refusal {
-    // The paper's number.
-    pub fn number(self) -> u8
-        ensures { RefusalNumber self result }
-    {
+// What every refusal has: the paper's number of it, and its place.
+pub trait Numbered {
+    ghost number_of: { Self → ℕ };
+
+    ghost place_of: { Self → ℕ };
+
+    fn number(self) -> u8
+        ensures { Tells number_of self result };
+
+    fn place(self) -> usize
+        ensures { Tells place_of self result };
+}
+
+impl Numbered for Refusal {
+    ghost number_of = { refusal_number };
+
+    ghost place_of = { refusal_place };
+
+    fn number(self) -> u8 {
         match self {
             Refusal::Frame => 1,
             Refusal::Alphabet(_) => 2,
@@ -28,10 +45,7 @@ impl Refusal {
         }
     }
 
-    // The paper's place.
-    pub fn place(self) -> usize
-        ensures { RefusalPlace self result }
-    {
+    fn place(self) -> usize {
         match self {
             Refusal::Frame => 0,
             Refusal::Alphabet(at) => at,
@@ -49,5 +63,25 @@ impl Refusal {
             Refusal::Dated(at) => at,
             Refusal::Room(needed) => needed,
         }
+    }
+}
+
+// The number of an answer: 0 where the call is done, and otherwise its refusal's.
+pub fn number_of<T: Copy, R: Numbered + Copy>(answer: Result<T, R>) -> u8
+    ensures { Tells (number_in R.number_of) answer result }
+{
+    match answer {
+        Ok(_) => 0,
+        Err(refusal) => refusal.number(),
+    }
+}
+
+// The place of an answer: 0 where the call is done, and otherwise its refusal's.
+pub fn place_of<T: Copy, R: Numbered + Copy>(answer: Result<T, R>) -> usize
+    ensures { Tells (place_in R.place_of) answer result }
+{
+    match answer {
+        Ok(_) => 0,
+        Err(refusal) => refusal.place(),
     }
 }

@@ -4,7 +4,7 @@
 use Prim.Native.Nat.{ℕ, zero, suc, ◌+◌, ◌-◌, ◌*◌, ◌≤◌, ◌<◌}
 use mathlib.Core.Bool.{Bool, true, false, cond, not, ◌&&◌, ◌||◌, true≢false}
 use mathlib.Core.List.{List, [], ◌∷◌, ◌++◌}
-use mathlib.Core.Option.{Option, none, some}
+use Rattle.std.specs.Prelude.{Option, None, Some}
 use mathlib.Core.Path.{◌≡◌, refl, sym, ◌∙◌, ap, subst}
 use native.Mathlib.Nat.{add-zero, mul-suc, mul-zero}
 use native.Mathlib.Numerals.{add-one}
@@ -320,11 +320,11 @@ says_line d line = go (ends_line (after_gap line)) (keyword_in (after_gap line) 
         → Says d
         (elim t [
           | true ↦ nothing
-          | false ↦ elim o [ some k ↦ line_of d k (after_gap line) | none ↦ unlike (expected.Line d.stage) (after_gap line) ]
+          | false ↦ elim o [ Some k ↦ line_of d k (after_gap line) | None ↦ unlike (expected.Line d.stage) (after_gap line) ]
         ])
     go true o = quiet
-    go false (some k) = says_keyword d k (after_gap line)
-    go false none = off
+    go false (Some k) = says_keyword d k (after_gap line)
+    go false None = off
 
 pub line_said : (d : Draft) (line : List ℕ) (k : Keyword) (bytes : List ℕ) → read_line d line ≡ says k bytes → Said d k bytes
 line_said d line k bytes e = go (subst (Says d) e (says_line d line))
@@ -523,9 +523,9 @@ reads_end d body end g = go (ltb d.stage 3) (ltb d.letters least_letters) (ltb d
   where
     go : (a b c : Bool) → ltb d.stage 3 ≡ a → ltb d.letters least_letters ≡ b → ltb d.transitions d.variables ≡ c
         → Reads
-        (elim (cond a (some (expected.Line d.stage)) (cond b (some expected.Letter) (cond c (some expected.Transition) none))) [
-          | none ↦ good d body
-          | some e ↦ bad e end
+        (elim (cond a (Some (expected.Line d.stage)) (cond b (Some expected.Letter) (cond c (Some expected.Transition) None))) [
+          | None ↦ good d body
+          | Some e ↦ bad e end
         ])
     go true b c e f h = ill
     go false true c e f h = ill

@@ -14,7 +14,7 @@ use Rattle.table.specs.Sections.{byte_at, number_at, trailer_at, distance, class
 use Rattle.table.specs.Refusals.{EntryForm, old_form, new_form, FrameRight, Refusal1, Line, line_1, line_2, line_11, line_12, line_13, line_14, line_3, line_4}
 use Rattle.table.specs.Verdict.{verdict_of}
 use Rattle.table.specs.declared.Refusal.TheVariants.{Frame, Room}
-use Rattle.table.specs.declared.Verdict.TheVariants.{Refused as NotAccepted}
+use Rattle.std.specs.Prelude.{Ok, Err}
 use Rattle.table.proofs.Frame.{frame_right_lem}
 use Rattle.table.proofs.Refusals.{VerdictTold, table_refused, verdict_told}
 use Rattle.form.specs.Fields.{number_bytes}
@@ -22,7 +22,7 @@ use Rattle.form.specs.Reading.{Reading, good, bad, reading, entry_size_for, deci
 use Rattle.form.specs.Calls.{refused, done, roomed, unlike, making}
 use Rattle.form.specs.Promises.{Ends}
 use Rattle.form.specs.declared.Draft.{Draft}
-use Rattle.form.specs.declared.Drawn.TheVariants.{Done, Refused}
+use Rattle.form.specs.declared.Undrawn.TheVariants.{Refused}
 use Rattle.tables.proofs.Drafts.{Comes, reading_good}
 
 -- ---- The trailer, read back
@@ -165,12 +165,12 @@ pub record Made (text : List ℕ) (w : ℕ) (after : List ℕ) : Type 0 where
   pub reads : reading text ≡ good draft body
   pub writes : take w after ≡ image_of draft body
 
-pub make_made : (text before : List ℕ) (w : ℕ) (after : List ℕ) → Ends (making text before) (Done w) after → Made text w after
+pub make_made : (text before : List ℕ) (w : ℕ) (after : List ℕ) → Ends (making text before) (Ok w) after → Made text w after
 unfolding making roomed done refused unlike
 make_made text before w after ends = go (reading text) refl ends
   where
     roomy : (d : Draft) (body : List ℕ) (t : Bool) → reading text ≡ good d body
-        → Ends (elim t [ true ↦ done before (image_of d body) | false ↦ refused before (Refused (Room (length (image_of d body)))) ]) (Done w) after → Made text w after
+        → Ends (elim t [ true ↦ done before (image_of d body) | false ↦ refused before (Err (Refused (Room (length (image_of d body))))) ]) (Ok w) after → Made text w after
     roomy d body true e ends =
         let answers = ends.answers in
         let long : w ≡ length (image_of d body) = cc in
@@ -183,7 +183,7 @@ make_made text before w after ends = go (reading text) refl ends
     roomy d body false e ends = let answers = ends.answers in let z : ◌≡◌ {A = ℕ} 0 1 = cc in absurd (omega arith)
 
     go : (r : Reading) → reading text ≡ r
-        → Ends (elim r [ bad e at ↦ refused before (unlike text e at) | good d body ↦ roomed before (image_of d body) ]) (Done w) after → Made text w after
+        → Ends (elim r [ bad e at ↦ refused before (unlike text e at) | good d body ↦ roomed before (image_of d body) ]) (Ok w) after → Made text w after
     go (bad x at) e ends = let answers = ends.answers in let z : ◌≡◌ {A = ℕ} 0 1 = cc in absurd (omega arith)
     go (good d body) e ends = roomy d body (leb (length (image_of d body)) (length before)) e ends
 
@@ -198,15 +198,15 @@ frame_line image (line_14 x) e = absurd (omega arith)
 frame_line image (line_3 x) e = absurd (omega arith)
 frame_line image (line_4 x) e = absurd (omega arith)
 
-pub framed_never_1 : (image : List ℕ) → frame_right image ≡ true → verdict_of image ≡ NotAccepted Frame → ⊥
+pub framed_never_1 : (image : List ℕ) → frame_right image ≡ true → verdict_of image ≡ Err Frame → ⊥
 framed_never_1 image framed e = go (subst (VerdictTold image) e (verdict_told image))
   where
-    go : VerdictTold image (NotAccepted Frame) → ⊥
+    go : VerdictTold image (Err Frame) → ⊥
     go (table_refused h f) = frame_line image f.line refl ((frame_right_lem image).0 framed)
 
 -- whatever image `make` wrote is never refused with 1
-pub made_never_1 : (text before : List ℕ) (w : ℕ) (after : List ℕ) → Ends (making text before) (Done w) after
-    → verdict_of (take w after) ≡ NotAccepted Frame → ⊥
+pub made_never_1 : (text before : List ℕ) (w : ℕ) (after : List ℕ) → Ends (making text before) (Ok w) after
+    → verdict_of (take w after) ≡ Err Frame → ⊥
 made_never_1 text before w after ends e =
     let m = make_made text before w after ends in
     framed_never_1 (take w after) (rw m.writes (made_frame text m.draft m.body m.reads)) e

@@ -19,7 +19,7 @@ use Rattle.table.specs.Refusals.{FrameRight}
 use Rattle.table.specs.Verdict.{verdict_of}
 use Rattle.table.specs.declared.Section.{Section}
 use Rattle.table.specs.declared.Sections.{Sections}
-use Rattle.table.specs.declared.Verdict.TheVariants.{Accepted}
+use Rattle.std.specs.Prelude.{Ok}
 use Rattle.table.proofs.Lists.{all_at}
 use Rattle.table.proofs.Tests.{both, tells_eq, fails_law, clash}
 use Rattle.table.proofs.Forms.{tells_dated, dated_size, undated_size, form_marked}
@@ -219,7 +219,7 @@ last_four image i l =
 
 -- ---- An accepted image
 
-module _ (image : List ℕ) (accepts : verdict_of image ≡ Accepted) where
+module _ (image : List ℕ) (accepts : verdict_of image ≡ Ok tt) where
   abbrev s : Sections
   s = sections_of image
 

@@ -1,8 +1,10 @@
 -- One character more of a text: its line and its column go by whether the character is a line feed. For the two functions that count them.
-use Prim.Native.Nat.{ℕ, suc, ◌+◌, ◌≤◌, ◌<◌}
+use Prim.Native.Nat.{ℕ, suc, ◌+◌, ◌≤◌, ◌<◌, min}
 use mathlib.Core.Bool.{Bool, true, false}
 use mathlib.Core.List.{List, [], ◌∷◌, ◌++◌}
+use mathlib.Core.Logic.{◌⊎◌, inl, inr}
 use mathlib.Core.Path.{◌≡◌, refl, sym, ◌∙◌, ap}
+use Rattle.std.proofs.str.Laws.{order}
 use native.Mathlib.Numerals.{add-one}
 use native.Mathlib.Omega.{arith}
 use lib.Dec.{eqb}
@@ -42,9 +44,13 @@ since_one : (n x : ℕ) {t : Bool} → eqb x line_feed ≡ t → since_feed n (x
 unfolding since_feed
 since_one n x e = ap (λ (t : Bool). elim t [ true ↦ since_feed 0 [] | false ↦ since_feed (suc n) [] ]) e
 
--- the characters up to the text's end are those up to any place beyond it
-pub whole_take : (text : List ℕ) (at : ℕ) → length text ≤ at → take (length text) text ≡ take at text
-whole_take text at l = take-length text ∙ sym (take_all at text l)
+-- the characters up to a place, or up to the text's end where it is past that
+pub front : (text : List ℕ) (at end : ℕ) → end ≡ min at (length text) → take end text ≡ take at text
+front text at end e = go (order at (length text))
+  where
+    go : (at < length text) ⊎ (length text ≤ at) → take end text ≡ take at text
+    go (inl lt) = let same : end ≡ at = omega arith in ap (λ (k : ℕ). take k text) same
+    go (inr le) = let same : end ≡ length text = omega arith in ap (λ (k : ℕ). take k text) same ∙ take-length text ∙ sym (take_all at text le)
 
 pub line_first : (text : List ℕ) → line_at text 0 ≡ 1
 unfolding line_at count

@@ -12,12 +12,13 @@ use lib.Dec.{eqb}
 use lib.ListN.{length, get_or}
 use Rattle.table.specs.Numbers.{least_symbol, most_symbol, entry_size, dated_entry_size, string_byte, length_byte}
 use Rattle.table.specs.Sections.{byte_at, bytes_from, entry_size_in, sections_of, offset, record_byte, record_part}
-use Rattle.table.specs.Records.{alphabet, contractions, transitions, decisions, section_named}
+use Rattle.table.specs.Records.{section_named}
+use Rattle.table.specs.declared.SectionName.TheVariants.{Alphabet as alphabet, Contractions as contractions, Transitions as transitions, Decisions as decisions}
 use Rattle.table.specs.Refusals.{Between, InAlphabet, RightEntry, RightDecision, IsTransition, IsDecision, IsCondition}
 use Rattle.table.specs.Verdict.{verdict_of}
 use Rattle.table.specs.declared.Section.{Section}
 use Rattle.table.specs.declared.Sections.{Sections}
-use Rattle.table.specs.declared.Verdict.TheVariants.{Accepted}
+use Rattle.std.specs.Prelude.{Ok}
 use Rattle.table.proofs.Lists.{all_take, all_drop}
 use Rattle.table.proofs.Forms.{entry_long}
 use Rattle.table.proofs.Reading.{part_long, part_at, accepted_laid, accepted_right}
@@ -79,7 +80,7 @@ unfolding sizes_of
 entry_sizes true = refl
 entry_sizes false = refl
 
-module _ (image : List ℕ) (accepts : verdict_of image ≡ Accepted) (bytes : Bytes image) where
+module _ (image : List ℕ) (accepts : verdict_of image ≡ Ok tt) (bytes : Bytes image) where
   abbrev s : Sections
   s = sections_of image
 

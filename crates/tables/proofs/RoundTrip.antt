@@ -3,7 +3,7 @@
 use Prim.Native.Nat.{ℕ, zero, suc, ◌+◌, ◌-◌, ◌≤◌, ◌<◌}
 use mathlib.Core.Bool.{Bool, true, false, ◌||◌}
 use mathlib.Core.List.{List, [], ◌∷◌, ◌++◌, flatten, append_assoc, append-nil}
-use mathlib.Core.Option.{Option, none, some}
+use Rattle.std.specs.Prelude.{Option, None, Some, Ok, Err}
 use mathlib.Core.Path.{◌≡◌, refl, sym, ◌∙◌, ap, subst}
 use native.Mathlib.Nat.{add-zero}
 use native.Mathlib.Numerals.{add-one}
@@ -21,8 +21,7 @@ use Rattle.table.specs.declared.Section.{Section}
 use Rattle.table.specs.declared.Sections.{Sections}
 use Rattle.table.specs.declared.Refusal.{Refusal}
 use Rattle.table.specs.declared.Refusal.TheVariants.{Room}
-use Rattle.table.specs.declared.Verdict.{Verdict}
-use Rattle.table.specs.declared.Verdict.TheVariants.{Accepted, Refused as NotAccepted}
+use Rattle.table.specs.Answers.{Verdict}
 use Rattle.table.proofs.Tests.{fails_law, tells_lt, tells_within}
 use Rattle.table.proofs.Reading.{accepted_laid}
 use Rattle.form.specs.Numbers.{line_feed}
@@ -30,12 +29,11 @@ use Rattle.form.specs.Words.{after_gap, ends_line}
 use Rattle.form.specs.Fields.{spelled, fields_of, sizes_of}
 use Rattle.form.specs.Reading.{says, Reading, good, bad, start, in_order, has_room, with_line, image_bytes, lines_of, read_line, read_end, read_lines, reading, what_is_missing, image_of}
 use Rattle.form.specs.Showing.{shown_fields, shown_line, head_of, shown_head, shown_record, shown_section, shown_in, shown}
-use Rattle.form.specs.Calls.{Outcome, done, refused, roomed, showing, making}
+use Rattle.form.specs.Calls.{Drawn, Outcome, done, refused, roomed, showing, making}
 use Rattle.form.specs.Promises.{Ends}
 use Rattle.tables.specs.inside.Writing.{Writable}
 use Rattle.form.specs.declared.Draft.{Draft}
-use Rattle.form.specs.declared.Drawn.{Drawn}
-use Rattle.form.specs.declared.Drawn.TheVariants.{Done, Refused}
+use Rattle.form.specs.declared.Undrawn.TheVariants.{Refused}
 use Rattle.form.specs.declared.Expected.{Expected}
 use Rattle.form.specs.declared.Keyword.{Keyword}
 use Rattle.form.specs.declared.Keyword.TheVariants.{Dated, Classes, Variables, Letter, Entry, Context, Transition, Decision}
@@ -283,8 +281,8 @@ reads_end d body stage letters transitions at =
     let a = (fails_law (tells_lt d.stage 3)).1 (λ (l : d.stage < 3). omega arith) in
     let b = (fails_law (tells_lt d.letters 1)).1 (λ (l : d.letters < 1). omega arith) in
     let c = (fails_law (tells_lt d.transitions d.variables)).1 (λ (l : d.transitions < d.variables). omega arith) in
-    let none_missing : what_is_missing d ≡ none = rw (a, b, c) in
-    ap (λ (o : Option Expected). elim o [ none ↦ good d body | some e ↦ bad e (at + 0 + 1 - 1) ]) none_missing
+    let none_missing : what_is_missing d ≡ None = rw (a, b, c) in
+    ap (λ (o : Option Expected). elim o [ None ↦ good d body | Some e ↦ bad e (at + 0 + 1 - 1) ]) none_missing
 
 -- ---- An accepted image
 
@@ -296,7 +294,7 @@ last_stage s =
     (stage_after s.contexts.records (stage_after s.contractions.records (stage_after s.alphabet.records 3 4) 5) 6) 7)
     8
 
-module _ (image : List ℕ) (accepts : verdict_of image ≡ Accepted) (bytes : Bytes image) where
+module _ (image : List ℕ) (accepts : verdict_of image ≡ Ok tt) (bytes : Bytes image) where
   abbrev s : Sections
   s = sections_of image
 
@@ -348,14 +346,14 @@ module _ (image : List ℕ) (accepts : verdict_of image ≡ Accepted) (bytes : B
 
 -- `show` wrote a text, so the image is accepted and the text is its own
 record Wrote (image after : List ℕ) (w : ℕ) : Type 0 where
-  accepts : verdict_of image ≡ Accepted
+  accepts : verdict_of image ≡ Ok tt
   text : take w after ≡ shown image
 
-showing_accepted : (image out : List ℕ) → verdict_of image ≡ Accepted → showing image out ≡ roomed out (shown image)
+showing_accepted : (image out : List ℕ) → verdict_of image ≡ Ok tt → showing image out ≡ roomed out (shown image)
 unfolding showing
 showing_accepted image out e = rw (showing, e)
 
-showing_refused : (image out : List ℕ) (r : Refusal) → verdict_of image ≡ NotAccepted r → showing image out ≡ refused out (Refused r)
+showing_refused : (image out : List ℕ) (r : Refusal) → verdict_of image ≡ Err r → showing image out ≡ refused out (Err (Refused r))
 unfolding showing
 showing_refused image out r e = rw (showing, e)
 
@@ -363,35 +361,35 @@ roomed_fits : (out bytes : List ℕ) → leb (length bytes) (length out) ≡ tru
 unfolding roomed
 roomed_fits out bytes e = rw (roomed, e)
 
-roomed_short : (out bytes : List ℕ) → leb (length bytes) (length out) ≡ false → roomed out bytes ≡ refused out (Refused (Room (length bytes)))
+roomed_short : (out bytes : List ℕ) → leb (length bytes) (length out) ≡ false → roomed out bytes ≡ refused out (Err (Refused (Room (length bytes))))
 unfolding roomed
 roomed_short out bytes e = rw (roomed, e)
 
-show_wrote : (image out after : List ℕ) (w : ℕ) → Ends (showing image out) (Done w) after → Wrote image after w
+show_wrote : (image out after : List ℕ) (w : ℕ) → Ends (showing image out) (Ok w) after → Wrote image after w
 unfolding done refused
 show_wrote image out after w h = by_verdict (verdict_of image) refl
   where
-    -- `Done` is no refusal
-    no_refusal : (r : Refusal) → showing image out ≡ refused out (Refused r) → Wrote image after w
+    -- `Ok` is no refusal
+    no_refusal : (r : Refusal) → showing image out ≡ refused out (Err (Refused r)) → Wrote image after w
     no_refusal r e =
-        let p : Done w ≡ Refused r = h.answers ∙ ap (λ (o : Outcome). o.answer) e in
+        let p : ◌≡◌ {A = Drawn} (Ok w) (Err (Refused r)) = h.answers ∙ ap (λ (o : Outcome). o.answer) e in
         let z : ◌≡◌ {A = ℕ} 0 1 = cc in
         absurd (omega arith)
 
-    by_room : verdict_of image ≡ Accepted → (fits : Bool) → leb (length (shown image)) (length out) ≡ fits → Wrote image after w
+    by_room : verdict_of image ≡ Ok tt → (fits : Bool) → leb (length (shown image)) (length out) ≡ fits → Wrote image after w
     by_room e true f =
         let is = showing_accepted image out e ∙ roomed_fits out (shown image) f in
-        let p : Done w ≡ Done (length (shown image)) = h.answers ∙ ap (λ (o : Outcome). o.answer) is in
+        let p : ◌≡◌ {A = Drawn} (Ok w) (Ok (length (shown image))) = h.answers ∙ ap (λ (o : Outcome). o.answer) is in
         let n : w ≡ length (shown image) = cc in
         let q : after ≡ shown image ++ drop (length (shown image)) out = h.leaves ∙ ap (λ (o : Outcome). o.output) is in
         record { accepts = e; text = rw (n, q) (take-append_seam (shown image) (drop (length (shown image)) out)) }
     by_room e false f = no_refusal (Room (length (shown image))) (showing_accepted image out e ∙ roomed_short out (shown image) f)
 
     by_verdict : (v : Verdict) → verdict_of image ≡ v → Wrote image after w
-    by_verdict Accepted e = by_room e (leb (length (shown image)) (length out)) refl
-    by_verdict (NotAccepted r) e = no_refusal r (showing_refused image out r e)
+    by_verdict (Ok tt) e = by_room e (leb (length (shown image)) (length out)) refl
+    by_verdict (Err r) e = no_refusal r (showing_refused image out r e)
 
-pub show_then_make : (image : List ℕ) → Bytes image → (out after : List ℕ) (w : ℕ) → Ends (showing image out) (Done w) after
+pub show_then_make : (image : List ℕ) → Bytes image → (out after : List ℕ) (w : ℕ) → Ends (showing image out) (Ok w) after
     → (before : List ℕ) (answer : Drawn) (left : List ℕ) → Ends (making (take w after) before) answer left → Ends (roomed before image) answer left
 show_then_make image bytes out after w showed before answer left made =
     let h = show_wrote image out after w showed in

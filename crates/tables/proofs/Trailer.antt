@@ -1,13 +1,11 @@
 -- The trailer of a modest draft: how long the sections are at most, and that five numbers, two bytes and two marks, each where the one before it ends, are the
 -- trailer.
-use Prim.Native.Nat.{ℕ, suc, ◌+◌, ◌*◌, ◌%◌, ◌≤◌}
+use Prim.Native.Nat.{ℕ, ◌+◌, ◌*◌, ◌≤◌}
 use mathlib.Core.Bool.{Bool, true, false, cond}
 use mathlib.Core.List.{List, [], ◌∷◌, ◌++◌}
 use mathlib.Core.Path.{◌≡◌, refl}
-use native.Mathlib.Nat.{mul-le-mul, mod-eq_of_lt}
+use native.Mathlib.Nat.{mul-le-mul}
 use native.Mathlib.Omega.{arith}
-use lib.ListN.{set}
-use lib.Seq.{sets}
 use Rattle.table.specs.Numbers.{entry_size, dated_entry_size, first_mark, second_mark, dated_mark}
 use Rattle.table.specs.inside.Wrote.{Wrote}
 use Rattle.table.proofs.Wrote.{put_then}
@@ -53,33 +51,23 @@ module _ (d : Draft) (m : Modest d) where
 
   -- ---- What is put is the trailer
 
-  four : (l : List ℕ) (at a b c e : ℕ) → set (set (set (set l (at + 10) a) (at + 11) b) (at + 12) c) (at + 13) e ≡ sets l (at + 10) (a ∷ b ∷ c ∷ e ∷ [])
-  four l at a b c e =
-      let x : at + 11 ≡ suc (at + 10) = omega arith in
-      let y : at + 12 ≡ suc (suc (at + 10)) = omega arith in
-      let z : at + 13 ≡ suc (suc (suc (at + 10))) = omega arith in
-      rw (x, y, z)
-
   module _ (at : ℕ) (l l₁ l₂ l₃ l₄ l₅ : List ℕ) where
-    pub trailer_put : {a b c e f mark : ℕ} → Wrote l at (number_bytes a) l₁ → a ≡ letters_for d
+    pub trailer_put : {a b c e f : ℕ} {after : List ℕ} → Wrote l at (number_bytes a) l₁ → a ≡ letters_for d
         → Wrote l₁ (at + 2) (number_bytes b) l₂ → b ≡ entries_for d
         → Wrote l₂ (at + 4) (number_bytes c) l₃ → c ≡ contexts_for d
         → Wrote l₃ (at + 6) (number_bytes e) l₄ → e ≡ transitions_for d
         → Wrote l₄ (at + 8) (number_bytes f) l₅ → f ≡ decisions_for d
-        → mark ≡ cond d.dated dated_mark second_mark
-        → Wrote l at (trailer_for d) (set (set (set (set l₅ (at + 10) (d.classes % 256)) (at + 11) (d.variables % 256)) (at + 12) first_mark) (at + 13) mark)
+        → Wrote l₅ (at + 10) (d.classes ∷ d.variables ∷ first_mark ∷ cond d.dated dated_mark second_mark ∷ []) after → Wrote l at (trailer_for d) after
     unfolding trailer_for number_bytes
-    trailer_put {a} {b} {c} {e} {f} {mark} w₁ e₁ w₂ e₂ w₃ e₃ w₄ e₄ w₅ e₅ e₆ =
-        let x : d.classes % 256 ≡ d.classes = mod-eq_of_lt (omega (arith, m.classes)) in
-        let y : d.variables % 256 ≡ d.variables = mod-eq_of_lt (omega (arith, m.variables)) in
-        rw (x, y, e₆, ← e₁, ← e₂, ← e₃, ← e₄, ← e₅)
+    trailer_put {a} {b} {c} {e} {f} {after} w₁ e₁ w₂ e₂ w₃ e₃ w₄ e₄ w₅ e₅ last =
+        rw (← e₁, ← e₂, ← e₃, ← e₄, ← e₅)
         (record {
           leaves =
-              put_then l l₅ _ at (number_bytes a ++ number_bytes b ++ number_bytes c ++ number_bytes e ++ number_bytes f)
+              put_then l l₅ after at (number_bytes a ++ number_bytes b ++ number_bytes c ++ number_bytes e ++ number_bytes f)
               (d.classes ∷ d.variables ∷ first_mark ∷ cond d.dated dated_mark second_mark ∷ [])
               (put_then l l₄ l₅ at (number_bytes a ++ number_bytes b ++ number_bytes c ++ number_bytes e) (number_bytes f)
               (put_then l l₃ l₄ at (number_bytes a ++ number_bytes b ++ number_bytes c) (number_bytes e)
               (put_then l l₂ l₃ at (number_bytes a ++ number_bytes b) (number_bytes c)
               (put_then l l₁ l₂ at (number_bytes a) (number_bytes b) w₁.leaves w₂.leaves refl) w₃.leaves refl) w₄.leaves refl) w₅.leaves refl)
-              (four l₅ at d.classes d.variables first_mark (cond d.dated dated_mark second_mark)) refl;
+              last.leaves refl;
         })

@@ -2,7 +2,7 @@
 -- lines from there on do, from this draft and these bytes.
 use Prim.Native.Nat.{ℕ, zero, suc, ◌+◌, ◌-◌, ◌*◌, ◌≤◌, ◌<◌}
 use mathlib.Core.List.{List, [], ◌∷◌, ◌++◌, append-nil}
-use mathlib.Core.Option.{none, some}
+use Rattle.std.specs.Prelude.{None, Some, Result, Ok, Err}
 use mathlib.Core.Path.{◌≡◌, refl, sym, ◌∙◌, ap}
 use native.Mathlib.Decide.{dec_le}
 use native.Mathlib.Omega.{arith}
@@ -21,11 +21,15 @@ use Rattle.form.specs.declared.Draft.{Draft}
 use Rattle.form.specs.declared.Expected.{Expected}
 use Rattle.form.specs.declared.Keyword.{Keyword}
 use Rattle.form.specs.declared.Keyword.TheVariants.{Dated, Classes, Variables, Letter, Entry, Context, Transition, Decision}
-use Rattle.tables.specs.declared.Taken.TheVariants.{On, Wrong}
-use Rattle.tables.specs.declared.Walked.TheVariants as walked
+use Rattle.form.specs.declared.Unlike.{Unlike}
+use Rattle.tables.specs.declared.modest.ModestDraft.{ModestDraft}
 use Rattle.tables.proofs.Drafts.{says_modest, says_size}
 use Rattle.tables.proofs.Lines.{first_within, lines_left, left_from, left_none, left_line}
 use Rattle.form.proofs.Sizes.{record_small}
+
+-- what was expected, and where
+abbrev pub unlike_at : Expected → ℕ → Unlike
+unlike_at e i = record { expected = e; at = i }
 
 -- ---- What one line gives, from the record that it was read into
 
@@ -73,26 +77,20 @@ module _ (k : Keyword) (bytes : List ℕ) where
   unfolding image_bytes
   image_head h = rw (le-ltb 3 (rank k) h, image_bytes)
 
-module _ (d : Draft) (line : List ℕ) (to : ℕ) (out : List ℕ) where
-  pub took_nothing : read_line d line ≡ nothing
-      → (On d to ≡ taken d line to (read_line d line)) × Puts out to (line_bytes (read_line d line)) (to + length (line_bytes (read_line d line))) out
-  took_nothing e = rw e (refl, puts_none out to)
+module _ (d : Draft) (line : List ℕ) (k : Keyword) (n : ℕ) (rec : List ℕ) (reads : read_line d line ≡ says k (take n rec)) {next : Draft}
+    (is : next ≡ with_line d k (get_or rec 0 0)) where
+  with_first : next ≡ with_line d k (get_or (take n rec) 0 0)
+  with_first =
+      let size = says_size d line k (take n rec) reads in
+      is ∙ first_alike d k _ _ (λ some_bytes. first_there n rec (omega arith))
 
-  pub took_wrong : {e : Expected} {i : ℕ} → read_line d line ≡ unlike e (drop i line) → i ≤ length line
-      → (Wrong e i ≡ taken d line to (read_line d line)) × Puts out to (line_bytes (read_line d line)) (to + length (line_bytes (read_line d line))) out
-  took_wrong {e} {i} reads within =
-      let size = length-drop i line in
-      let back : i ≡ length line - length (drop i line) = omega arith in
-      rw reads (ap (Wrong e) back, puts_none out to)
+  -- the draft stays within the limits
+  pub next_modest : Modest d → Modest next
+  next_modest modest = rw with_first (says_modest d line k (take n rec) modest reads)
 
-  module _ (k : Keyword) (n : ℕ) (rec : List ℕ) (reads : read_line d line ≡ says k (take n rec)) {next : Draft} (is : next ≡ with_line d k (get_or rec 0 0)) where
-    with_first : next ≡ with_line d k (get_or (take n rec) 0 0)
-    with_first =
-        let size = says_size d line k (take n rec) reads in
-        is ∙ first_alike d k _ _ (λ some_bytes. first_there n rec (omega arith))
-
+  module _ (to : ℕ) (out : List ℕ) where
     pub took_record : 3 < rank k → {size further : ℕ} {after : List ℕ} → size ≡ sizes_of (fields_of d k) → Puts out to (take size rec) further after
-        → (On next further ≡ taken d line to (read_line d line)) × Puts out to (line_bytes (read_line d line)) (to + length (line_bytes (read_line d line))) after
+        → (Ok (next, further) ≡ taken d line to (read_line d line)) × Puts out to (line_bytes (read_line d line)) (to + length (line_bytes (read_line d line))) after
     took_record high {size} {further} {after} whole puts =
         let same = (take_size n size rec (says_size d line k (take n rec) reads ∙ sym whole)).0 in
         let image = image_record k (take n rec) high in
@@ -102,7 +100,7 @@ module _ (d : Draft) (line : List ℕ) (to : ℕ) (out : List ℕ) where
         rw (reads, image) (cc, record { goes = refl; writes = put.writes })
 
     pub took_head : rank k ≤ 3
-        → (On next to ≡ taken d line to (read_line d line)) × Puts out to (line_bytes (read_line d line)) (to + length (line_bytes (read_line d line))) out
+        → (Ok (next, to) ≡ taken d line to (read_line d line)) × Puts out to (line_bytes (read_line d line)) (to + length (line_bytes (read_line d line))) out
     took_head low =
         let image = image_head k (take n rec) low in
         let with = with_first in
@@ -149,66 +147,47 @@ line_part text at end e =
     let n : end - at ≡ first_line (drop at text) = omega arith in
     ap (λ (m : ℕ). take m (drop at text)) n
 
--- what isn't of the form is within the line
-pub wrong_within : (d : Draft) (line : List ℕ) (to : ℕ) (l : Line) {e : Expected} {i : ℕ} → Wrong e i ≡ taken d line to l → i ≤ length line
-wrong_within d line to nothing told = let z : ◌≡◌ {A = ℕ} 0 1 = cc in absurd (omega arith)
-wrong_within d line to (says k bytes) told = let z : ◌≡◌ {A = ℕ} 0 1 = cc in absurd (omega arith)
-wrong_within d line to (unlike f rest) {e} {i} told = let place : i ≡ length line - length rest = cc in omega arith
-
 -- ---- What is known where the next line starts, one past the end where there is none
 
-pub record Walking (text out₀ out : List ℕ) (d : Draft) (at to : ℕ) : Type 0 where
+pub record Walking (text out₀ out : List ℕ) (m : ModestDraft) (at to : ℕ) : Type 0 where
   pub near : at ≤ length text + 1
-  pub modest : Modest d
   pub body : List ℕ
   pub size : to ≡ length body
-  pub few : to ≤ 64 * counted d
-  pub reads : reading text ≡ read_lines d body at (lines_left text at)
+  pub few : to ≤ 64 * counted m.draft
+  pub reads : reading text ≡ read_lines m.draft body at (lines_left text at)
   pub wrote : length body ≤ length out₀ → Wrote out₀ 0 body out
 
-pub walk_starts : (text out : List ℕ) (d : Draft) → d ≡ start → Walking text out out d 0 0
+pub walk_starts : (text out : List ℕ) (m : ModestDraft) → m.draft ≡ start → Walking text out out m 0 0
 unfolding reading
-walk_starts text out d is =
-    rw is
+walk_starts text out m is =
     record {
       near = omega arith;
-      modest =
-          record {
-            stage = omega arith;
-            classes = omega arith;
-            variables = omega arith;
-            letters = omega arith;
-            entries = omega arith;
-            contexts = omega arith;
-            transitions = omega arith;
-            decisions = omega arith;
-          };
       body = [];
       size = refl;
       few = omega arith;
-      reads = ap (read_lines start [] 0) (sym (left_from text 0 (omega arith)));
+      reads = rw is (ap (read_lines start [] 0) (sym (left_from text 0 (omega arith))));
       wrote = λ _. record { leaves = refl };
     }
 
-pub walk_small : {text out₀ out : List ℕ} {d : Draft} {at to : ℕ} → Walking text out₀ out d at to → to < 1000000
-walk_small w = let m = w.modest in let f = w.few in omega arith
+pub walk_small : {text out₀ out : List ℕ} {m : ModestDraft} {at to : ℕ} → Walking text out₀ out m at to → to < 1000000
+walk_small {m = m} w = let l = m.modest in let f = w.few in omega arith
 
-module _ {text out₀ out : List ℕ} {d : Draft} {at to : ℕ} (w : Walking text out₀ out d at to) (inside : at ≤ length text) (line : List ℕ)
+module _ {text out₀ out : List ℕ} {m : ModestDraft} {at to : ℕ} (w : Walking text out₀ out m at to) (inside : at ≤ length text) (line : List ℕ)
     (is : line ≡ take (first_line (drop at text)) (drop at text)) where
   line_long : length line ≡ first_line (drop at text)
   line_long = ap length is ∙ length-take-le _ _ (first_within (drop at text))
 
-  reads_line : reading text ≡ read_lines d w.body at (line ∷ lines_left text (line_end text at + 1))
+  reads_line : reading text ≡ read_lines m.draft w.body at (line ∷ lines_left text (line_end text at + 1))
   reads_line =
       w.reads
-      ∙ ap (read_lines d w.body at) (left_line text at inside ∙ ap (λ (l : List ℕ). l ∷ lines_left text (line_end text at + 1)) (sym is))
+      ∙ ap (read_lines m.draft w.body at) (left_line text at inside ∙ ap (λ (l : List ℕ). l ∷ lines_left text (line_end text at + 1)) (sym is))
 
   -- the line leads to this draft and gives these bytes
-  moved : {next : Draft} {bytes after : List ℕ} {end : ℕ} → Modest next → to + length bytes ≤ 64 * counted next
-      → reading text ≡ read_lines next (w.body ++ bytes) (at + length line + 1) (lines_left text (line_end text at + 1)) → Puts out to bytes end after
+  moved : {next : ModestDraft} {bytes after : List ℕ} {end : ℕ} → to + length bytes ≤ 64 * counted next.draft
+      → reading text ≡ read_lines next.draft (w.body ++ bytes) (at + length line + 1) (lines_left text (line_end text at + 1)) → Puts out to bytes end after
       → Walking text out₀ after next (line_end text at + 1) (to + length bytes)
   unfolding line_end
-  moved {next} {bytes} {after} {end} modest few reads puts =
+  moved {next} {bytes} {after} {end} few reads puts =
       let long = line_long in
       let within = first_within (drop at text) in
       let rest = length-drop at text in
@@ -217,11 +196,10 @@ module _ {text out₀ out : List ℕ} {d : Draft} {at to : ℕ} (w : Walking tex
       let size = w.size in
       record {
         near = omega arith;
-        modest = modest;
         body = w.body ++ bytes;
         size = omega arith;
         few = few;
-        reads = reads ∙ ap (λ (n : ℕ). read_lines next (w.body ++ bytes) n (lines_left text (at + first_line (drop at text) + 1))) ends;
+        reads = reads ∙ ap (λ (n : ℕ). read_lines next.draft (w.body ++ bytes) n (lines_left text (at + first_line (drop at text) + 1))) ends;
         wrote =
             λ room.
             let so_far = w.wrote (omega arith) in
@@ -229,61 +207,64 @@ module _ {text out₀ out : List ℕ} {d : Draft} {at to : ℕ} (w : Walking tex
             record { leaves = put_then out₀ out after 0 w.body bytes so_far.leaves (puts.writes (omega arith)).leaves (omega arith) };
       }
 
-  pub walk_on : {next : Draft} {further : ℕ} {after : List ℕ} → On next further ≡ taken d line to (read_line d line)
-      → Puts out to (line_bytes (read_line d line)) (to + length (line_bytes (read_line d line))) after → Walking text out₀ after next (line_end text at + 1) further
-  walk_on {next} {further} {after} told puts = go (read_line d line) refl told puts
+  pub walk_on : {next : ModestDraft} {further : ℕ} {after : List ℕ} → Ok (next.draft, further) ≡ taken m.draft line to (read_line m.draft line)
+      → Puts out to (line_bytes (read_line m.draft line)) (to + length (line_bytes (read_line m.draft line))) after → Walking text out₀ after next (line_end text at + 1) further
+  walk_on {next} {further} {after} told puts = go (read_line m.draft line) refl told puts
     where
-      go : (l : Line) → read_line d line ≡ l → On next further ≡ taken d line to l → Puts out to (line_bytes l) (to + length (line_bytes l)) after
+      go : (l : Line) → read_line m.draft line ≡ l → Ok (next.draft, further) ≡ taken m.draft line to l → Puts out to (line_bytes l) (to + length (line_bytes l)) after
           → Walking text out₀ after next (line_end text at + 1) further
       go nothing e told puts =
-          let same : next ≡ d = cc in
-          let stays : further ≡ to = cc in
+          let both : ◌≡◌ {A = Draft × ℕ} (next.draft, further) (m.draft, to) = cc in
+          let same = ap (λ (p : Draft × ℕ). p.0) both in
+          let stays = ap (λ (p : Draft × ℕ). p.1) both in
           let f : further ≡ to + length {A = ℕ} [] = omega arith in
           let few = w.few in
-          rw (same, f)
-          (moved w.modest (omega arith)
-          (reads_line ∙ lines_nothing d w.body at line _ e ∙ ap (λ (b : List ℕ). read_lines d b (at + length line + 1) (lines_left text (line_end text at + 1))) (sym (append-nil w.body))) puts)
+          rw f
+          (moved {next = next} (rw same (omega arith))
+          (rw same (reads_line ∙ lines_nothing m.draft w.body at line _ e ∙ ap (λ (b : List ℕ). read_lines m.draft b (at + length line + 1) (lines_left text (line_end text at + 1))) (sym (append-nil w.body)))) puts)
       go (says k bytes) e told puts =
-          let same : next ≡ with_line d k (get_or bytes 0 0) = cc in
-          let goes : further ≡ to + length (image_bytes k bytes) = cc in
-          let small = record_small d k w.modest in
-          let size = says_size d line k bytes e in
-          rw (same, goes)
-          (moved (says_modest d line k bytes w.modest e) (grows d k (get_or bytes 0 0) bytes to (omega arith) w.few) (reads_line ∙ lines_says d w.body at line _ e) puts)
+          let both : ◌≡◌ {A = Draft × ℕ} (next.draft, further) (with_line m.draft k (get_or bytes 0 0), to + length (image_bytes k bytes)) = cc in
+          let same = ap (λ (p : Draft × ℕ). p.0) both in
+          let goes = ap (λ (p : Draft × ℕ). p.1) both in
+          let small = record_small m.draft k m.modest in
+          let size = says_size m.draft line k bytes e in
+          rw goes
+          (moved {next = next} (rw same (grows m.draft k (get_or bytes 0 0) bytes to (omega arith) w.few)) (rw same (reads_line ∙ lines_says m.draft w.body at line _ e)) puts)
       go (unlike e rest) h told puts = let z : ◌≡◌ {A = ℕ} 0 1 = cc in absurd (omega arith)
 
-  pub walk_wrong : {e : Expected} {i : ℕ} → Wrong e i ≡ taken d line to (read_line d line) → reading text ≡ bad e (at + i)
-  walk_wrong {e} {i} told = go (read_line d line) refl told
+  pub walk_wrong : {e : Expected} {i : ℕ} → Err (unlike_at e i) ≡ taken m.draft line to (read_line m.draft line) → reading text ≡ bad e (at + i)
+  walk_wrong {e} {i} told = go (read_line m.draft line) refl told
     where
-      go : (l : Line) → read_line d line ≡ l → Wrong e i ≡ taken d line to l → reading text ≡ bad e (at + i)
+      go : (l : Line) → read_line m.draft line ≡ l → Err (unlike_at e i) ≡ taken m.draft line to l → reading text ≡ bad e (at + i)
       go nothing h told = let z : ◌≡◌ {A = ℕ} 0 1 = cc in absurd (omega arith)
       go (says k bytes) h told = let z : ◌≡◌ {A = ℕ} 0 1 = cc in absurd (omega arith)
       go (unlike f rest) h told =
-          let same : e ≡ f = cc in
-          let place : i ≡ length line - length rest = cc in
-          rw (same, place) (reads_line ∙ lines_unlike d w.body at line _ h)
+          let both : unlike_at e i ≡ unlike_at f (length line - length rest) = cc in
+          let same = ap (λ (u : Unlike). u.expected) both in
+          let place = ap (λ (u : Unlike). u.at) both in
+          rw (same, place) (reads_line ∙ lines_unlike m.draft w.body at line _ h)
 
 -- ---- The end
 
-module _ {text out₀ out : List ℕ} {d : Draft} {at to : ℕ} (w : Walking text out₀ out d at to) (over : length text < at) where
-  walk_ends : reading text ≡ read_end d w.body (length text)
+module _ {text out₀ out : List ℕ} {m : ModestDraft} {at to : ℕ} (w : Walking text out₀ out m at to) (over : length text < at) where
+  walk_ends : reading text ≡ read_end m.draft w.body (length text)
   unfolding read_lines
   walk_ends =
       let near = w.near in
       let end : at - 1 ≡ length text = omega arith in
-      w.reads ∙ ap (read_lines d w.body at) (left_none text at over) ∙ ap (read_end d w.body) end
+      w.reads ∙ ap (read_lines m.draft w.body at) (left_none text at over) ∙ ap (read_end m.draft w.body) end
 
-  pub walk_good : none ≡ what_is_missing d → reading text ≡ good d w.body
+  pub walk_good : None ≡ what_is_missing m.draft → reading text ≡ good m.draft w.body
   unfolding read_end
   walk_good e = walk_ends ∙ rw (sym e, read_end)
 
-  pub walk_lacks : {e : Expected} → some e ≡ what_is_missing d → reading text ≡ bad e (length text)
+  pub walk_lacks : {e : Expected} → Some e ≡ what_is_missing m.draft → reading text ≡ bad e (length text)
   unfolding read_end
   walk_lacks e = walk_ends ∙ rw (sym e, read_end)
 
 -- a text that isn't of the form comes to no draft
 pub never_drafted : {text : List ℕ} {e : Expected} {i : ℕ} {d : Draft} → reading text ≡ bad e i → Drafted text d → ⊥
 never_drafted {text} {e} {i} {d} wrong drafted =
-    let told : walked.Wrong e i ≡ walked.To d = sym (ap walked_to wrong) ∙ drafted.comes in
+    let told : ◌≡◌ {A = Result Draft Unlike} (Err (unlike_at e i)) (Ok d) = sym (ap walked_to wrong) ∙ drafted.comes in
     let z : ◌≡◌ {A = ℕ} 0 1 = cc in
     omega arith

@@ -1,3 +1,4 @@
 pub mod Steps
 pub mod Lines
+pub mod Modests
 pub mod Writing

@@ -7,45 +7,9 @@
 
 mod lining;
 mod making;
+mod modest;
 mod walking;
 
-use form::Draft;
-pub use form::{Drawn, Expected, Keyword};
+pub use form::{Expected, Keyword, Undrawn};
 pub use making::make;
 pub use writing::show;
-
-// The word that a line begins with, if it is one of the form.
-#[derive(Clone, Copy)]
-enum Known {
-    Is(Keyword),
-    Nothing,
-}
-
-// What a line tells: nothing, a record of so many bytes, or where it isn't of the form.
-#[derive(Clone, Copy)]
-enum Told {
-    Nothing,
-    Says(Keyword, usize),
-    Unlike(Expected, usize),
-}
-
-// The draft after a line, and where the next record goes.
-#[derive(Clone, Copy)]
-enum Taken {
-    On(Draft, usize),
-    Wrong(Expected, usize),
-}
-
-// What is missing at the text's end.
-#[derive(Clone, Copy)]
-enum Lacks {
-    This(Expected),
-    Nothing,
-}
-
-// What the whole text comes to.
-#[derive(Clone, Copy)]
-enum Walked {
-    To(Draft),
-    Wrong(Expected, usize),
-}

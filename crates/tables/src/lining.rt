@@ -1,16 +1,27 @@
 // One line: its first word, whether it may stand there and whether there may be one more of its
 // kind, its fields, and what it makes of the draft.
 
-ghost use Rattle.std.specs.Prelude.{true, cond, ◌≡◌, ℕ, ◌≤◌, length, drop};
+ghost use Rattle.std.specs.Prelude.{true, ◌≡◌, ℕ, ◌≤◌, length, drop};
 ghost use Rattle.form.specs.Words.{is_word};
-ghost use Rattle.form.specs.Fields.{spelled, fields_of, sizes_of};
-ghost use Rattle.form.specs.Reading.{rank as rank_of, in_order, has_room, with_line, one as one_where, start as start_of, keyword_in, keywords, line_of, read_line};
-ghost use Rattle.tables.specs.inside.Steps.{known_keyword, told_line, ToldWithin};
-ghost use Rattle.form.specs.inside.Steps.{Modest};
+ghost use Rattle.form.specs.Fields.{spelled};
+ghost use Rattle.form.specs.Reading.{rank as rank_of, in_order, has_room, with_line, start as start_of, keyword_in, keywords, line_of, read_line};
+ghost use Rattle.tables.specs.inside.Steps.{said_line, SaidWithin, told_line, ToldWithin};
 
-use crate::{Known, Told};
-use fields::{Step, fill};
-use form::{Draft, Expected, Keyword, ends_line, gap_end, is_word, record_size};
+use crate::modest::ModestDraft;
+use fields::fill;
+use form::{Draft, Expected, Keyword, Unlike, ends_line, gap_end, is_word};
+
+// The words of the form, in the order of their lines.
+const KEYWORDS: [Keyword; 8] = [
+    Keyword::Dated,
+    Keyword::Classes,
+    Keyword::Variables,
+    Keyword::Letter,
+    Keyword::Entry,
+    Keyword::Context,
+    Keyword::Transition,
+    Keyword::Decision,
+];
 
 // The rank of a line: none stands after one of a higher rank.
 pub(crate) fn rank(keyword: Keyword) -> u8
@@ -37,11 +48,11 @@ fn in_order(draft: Draft, keyword: Keyword) -> bool
         Keyword::Dated => stage == 0,
         Keyword::Classes => stage <= 1,
         Keyword::Variables => stage == 2,
-        Keyword::Letter => (3 <= stage) & (stage <= 4),
-        Keyword::Entry => (3 <= stage) & (stage <= 5),
-        Keyword::Context => (3 <= stage) & (stage <= 6),
-        Keyword::Transition => (3 <= stage) & (stage <= 7),
-        Keyword::Decision => (3 <= stage) & (stage <= 8),
+        Keyword::Letter => matches!(stage, 3..=4),
+        Keyword::Entry => matches!(stage, 3..=5),
+        Keyword::Context => matches!(stage, 3..=6),
+        Keyword::Transition => matches!(stage, 3..=7),
+        Keyword::Decision => matches!(stage, 3..=8),
     }
 }
 
@@ -50,9 +61,7 @@ fn has_room(draft: Draft, keyword: Keyword) -> bool
     ensures { result ≡ has_room draft keyword }
 {
     match keyword {
-        Keyword::Dated => true,
-        Keyword::Classes => true,
-        Keyword::Variables => true,
+        Keyword::Dated | Keyword::Classes | Keyword::Variables => true,
         Keyword::Letter => draft.letters < 63,
         Keyword::Entry => draft.entries < 1199,
         Keyword::Context => draft.contexts < 5,
@@ -61,142 +70,137 @@ fn has_room(draft: Draft, keyword: Keyword) -> bool
     }
 }
 
-fn one(test: bool) -> u16
-    ensures { result ≡ one_where test }
-{
-    if test {
-        return 1;
-    }
-    0
-}
-
-fn picked(test: bool, yes: u16, no: u16) -> u16
-    ensures { result ≡ cond test yes no }
-{
-    if test {
-        return yes;
-    }
-    no
-}
-
-// The draft before any line.
-pub(crate) fn first_draft() -> Draft
-    ensures { result ≡ start_of }
-{
-    Draft {
-        stage: 0,
-        dated: false,
-        classes: 0,
-        variables: 0,
-        letters: 0,
-        entries: 0,
-        contexts: 0,
-        transitions: 0,
-        decisions: 0,
-    }
-}
-
-// The draft with one line more, whose first byte is `n`.
-pub(crate) fn with_line(draft: Draft, keyword: Keyword, n: u8) -> Draft
-    requires { Modest draft }
-    ensures { result ≡ with_line draft keyword n }
-{
-    let r = rank(keyword);
-    Draft {
-        stage: r,
-        dated: draft.dated | (r == 1),
-        classes: picked(r == 2, n as u16, draft.classes),
-        variables: picked(r == 3, n as u16, draft.variables),
-        letters: draft.letters + one(r == 4),
-        entries: draft.entries + one(r == 5),
-        contexts: draft.contexts + one(r == 6),
-        transitions: draft.transitions + one(r == 7),
-        decisions: draft.decisions + one(r == 8),
-    }
-}
-
 // The word of the form that stands there.
-fn keyword_at(line: &[u8], at: usize) -> Known
+fn keyword_at(line: &[u8], at: usize) -> Option<Keyword>
     requires { at ≤ length line.now }
-    ensures { known_keyword result ≡ keyword_in (drop at line.now) keywords }
+    ensures { result ≡ keyword_in (drop at line.now) keywords }
 {
-    if is_word(line, at, b"dated") {
-        return Known::Is(Keyword::Dated);
-    }
-    if is_word(line, at, b"classes") {
-        return Known::Is(Keyword::Classes);
-    }
-    if is_word(line, at, b"variables") {
-        return Known::Is(Keyword::Variables);
-    }
-    if is_word(line, at, b"letter") {
-        return Known::Is(Keyword::Letter);
-    }
-    if is_word(line, at, b"entry") {
-        return Known::Is(Keyword::Entry);
-    }
-    if is_word(line, at, b"context") {
-        return Known::Is(Keyword::Context);
-    }
-    if is_word(line, at, b"transition") {
-        return Known::Is(Keyword::Transition);
-    }
-    if is_word(line, at, b"decision") {
-        return Known::Is(Keyword::Decision);
-    }
-    Known::Nothing
-}
-
-// The characters of a first word.
-pub(crate) fn word_length(keyword: Keyword) -> usize
-    ensures { result ≡ length (spelled keyword) }
-{
-    match keyword {
-        Keyword::Dated => 5,
-        Keyword::Classes => 7,
-        Keyword::Variables => 9,
-        Keyword::Letter => 6,
-        Keyword::Entry => 5,
-        Keyword::Context => 7,
-        Keyword::Transition => 10,
-        Keyword::Decision => 8,
-    }
-}
-
-// The line whose first word stands there.
-fn line_of(draft: Draft, keyword: Keyword, line: &[u8], at: usize, rec: &mut [u8; 64]) -> Told
-    requires { Modest draft × (at ≤ length line.now) × (is_word (spelled keyword) (drop at line.now) ≡ true) }
-    ensures { (told_line line.now rec.new result ≡ line_of draft keyword (drop at line.now)) × ToldWithin line.now result }
-{
-    if !in_order(draft, keyword) {
-        return Told::Unlike(Expected::Line(draft.stage), at);
-    }
-    if !has_room(draft, keyword) {
-        return Told::Unlike(Expected::Fewer, at);
-    }
-    match fill(draft, keyword, line, at + word_length(keyword), rec) {
-        Step::Off(e, i) => Told::Unlike(e, i),
-        Step::On(i) => {
-            let end = gap_end(line, i);
-            if ends_line(line, end) {
-                return Told::Says(keyword, record_size(draft, keyword));
-            }
-            Told::Unlike(Expected::LineEnd, end)
+    for keyword in KEYWORDS {
+        if is_word(line, at, keyword.word()) {
+            return Some(keyword);
         }
     }
+    None
 }
 
-// What a line tells, with its record in `rec`.
-pub(crate) fn read_line(draft: Draft, line: &[u8], rec: &mut [u8; 64]) -> Told
-    requires { Modest draft }
-    ensures { (told_line line.now rec.new result ≡ read_line draft line.now) × ToldWithin line.now result }
-{
-    let at = gap_end(line, 0);
-    if ends_line(line, at) {
-        return Told::Nothing;
+impl ModestDraft {
+    // The draft before any line.
+    pub(crate) fn first() -> Self
+        ensures { result.draft ≡ start_of }
+    {
+        let draft = Draft {
+            stage: 0,
+            dated: false,
+            classes: 0,
+            variables: 0,
+            letters: 0,
+            entries: 0,
+            contexts: 0,
+            transitions: 0,
+            decisions: 0,
+        };
+        ModestDraft { draft }
     }
-    match keyword_at(line, at) {
-        Known::Is(keyword) => line_of(draft, keyword, line, at, rec),
-        Known::Nothing => Told::Unlike(Expected::Line(draft.stage), at),
+
+    // The draft with one line more, whose first byte is `n`.
+    #[tactic(auto, unfolding(form::specs::Reading::with_line))]
+    pub(crate) fn with_line(self, keyword: Keyword, n: u8) -> Draft
+        ensures { result ≡ with_line self.draft keyword n }
+    {
+        let draft = Draft {
+            stage: rank(keyword),
+            ..self.draft
+        };
+        match keyword {
+            Keyword::Dated => Draft {
+                dated: true,
+                ..draft
+            },
+            Keyword::Classes => Draft {
+                classes: u16::from(n),
+                ..draft
+            },
+            Keyword::Variables => Draft {
+                variables: u16::from(n),
+                ..draft
+            },
+            Keyword::Letter => Draft {
+                letters: draft.letters + 1,
+                ..draft
+            },
+            Keyword::Entry => Draft {
+                entries: draft.entries + 1,
+                ..draft
+            },
+            Keyword::Context => Draft {
+                contexts: draft.contexts + 1,
+                ..draft
+            },
+            Keyword::Transition => Draft {
+                transitions: draft.transitions + 1,
+                ..draft
+            },
+            Keyword::Decision => Draft {
+                decisions: draft.decisions + 1,
+                ..draft
+            },
+        }
+    }
+
+    // The line whose first word stands there: its record's bytes are put into `rec`.
+    fn line_of(
+        self,
+        keyword: Keyword,
+        line: &[u8],
+        at: usize,
+        rec: &mut [u8; 64],
+    ) -> Result<(), Unlike>
+        requires { (at ≤ length line.now) × (is_word (spelled keyword) (drop at line.now) ≡ true) }
+        ensures { (said_line self.draft keyword line.now rec.new result ≡ line_of self.draft keyword (drop at line.now)) × SaidWithin line.now result }
+    {
+        if !in_order(self.draft, keyword) {
+            return Err(Unlike {
+                expected: Expected::Line(self.draft.stage),
+                at,
+            });
+        }
+        if !has_room(self.draft, keyword) {
+            return Err(Unlike {
+                expected: Expected::Fewer,
+                at,
+            });
+        }
+        let next = fill(self.draft, keyword, line, at + keyword.word().len(), rec)?;
+        let end = gap_end(line, next);
+        if ends_line(line, end) {
+            Ok(())
+        } else {
+            Err(Unlike {
+                expected: Expected::LineEnd,
+                at: end,
+            })
+        }
+    }
+
+    // The word of the record that a line tells, which is put into `rec`, or nothing.
+    pub(crate) fn read_line(
+        self,
+        line: &[u8],
+        rec: &mut [u8; 64],
+    ) -> Result<Option<Keyword>, Unlike>
+        ensures { (told_line self.draft line.now rec.new result ≡ read_line self.draft line.now) × ToldWithin line.now result }
+    {
+        let at = gap_end(line, 0);
+        if ends_line(line, at) {
+            return Ok(None);
+        }
+        let Some(keyword) = keyword_at(line, at) else {
+            return Err(Unlike {
+                expected: Expected::Line(self.draft.stage),
+                at,
+            });
+        };
+        self.line_of(keyword, line, at, rec)?;
+        Ok(Some(keyword))
     }
 }

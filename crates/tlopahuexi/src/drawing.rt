@@ -3,6 +3,7 @@
 ghost use Rattle.form.specs.Calls.{showing, making};
 ghost use Rattle.calls.specs.Promises.{Redrawn};
 
+use crate::telling::five_values;
 use tables::{make, show};
 
 // Writes an accepted table image in readable form, and stores the answer's five values: number,
@@ -11,14 +12,7 @@ use tables::{make, show};
 pub fn tlopahuexi_show(image: &[u8], out: &mut [u8], answer: &mut [u64; 5])
     ensures { Redrawn (showing image.now out.old) out.new answer.new }
 {
-    let a = show(image, out);
-    *answer = [
-        a.number() as u64,
-        a.place() as u64,
-        a.written() as u64,
-        a.line() as u64,
-        a.column() as u64,
-    ];
+    *answer = five_values(show(image, out));
 }
 
 // Writes the image of a readable table, and stores the answer's five values: line and column are
@@ -26,12 +20,5 @@ pub fn tlopahuexi_show(image: &[u8], out: &mut [u8], answer: &mut [u64; 5])
 pub fn tlopahuexi_make(text: &[u8], out: &mut [u8], answer: &mut [u64; 5])
     ensures { Redrawn (making text.now out.old) out.new answer.new }
 {
-    let a = make(text, out);
-    *answer = [
-        a.number() as u64,
-        a.place() as u64,
-        a.written() as u64,
-        a.line() as u64,
-        a.column() as u64,
-    ];
+    *answer = five_values(make(text, out));
 }

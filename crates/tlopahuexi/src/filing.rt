@@ -3,6 +3,7 @@
 ghost use Rattle.embosser.specs.declared.Kind.TheVariants.{Layout, File};
 ghost use Rattle.calls.specs.Promises.{Converted};
 
+use crate::telling::three_values;
 use files::{read_file, write_file};
 use pages::Sheet;
 
@@ -18,15 +19,7 @@ pub fn tlopahuexi_write_file(
 )
     ensures { Converted Layout layout.now width length out.old out.new answer.new }
 {
-    let a = write_file(
-        layout,
-        Sheet {
-            width: width,
-            length: length,
-        },
-        out,
-    );
-    *answer = [a.number() as u64, a.place() as u64, a.written() as u64];
+    *answer = three_values(write_file(layout, Sheet { width, length }, out));
 }
 
 // Reads an embosser file as the layout that it was written from, as `tlopahuexi_write_file` writes
@@ -40,13 +33,5 @@ pub fn tlopahuexi_read_file(
 )
     ensures { Converted File file.now width length out.old out.new answer.new }
 {
-    let a = read_file(
-        file,
-        Sheet {
-            width: width,
-            length: length,
-        },
-        out,
-    );
-    *answer = [a.number() as u64, a.place() as u64, a.written() as u64];
+    *answer = three_values(read_file(file, Sheet { width, length }, out));
 }

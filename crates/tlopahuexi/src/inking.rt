@@ -2,6 +2,7 @@
 
 ghost use Rattle.calls.specs.Promises.{Inkprinted};
 
+use crate::telling::three_values;
 use ink::mark;
 
 // Marks inkprint, and stores the answer's three values: number, place, bytes written. A refused call
@@ -9,6 +10,5 @@ use ink::mark;
 pub fn tlopahuexi_mark(text: &[u8], out: &mut [u8], answer: &mut [u64; 3])
     ensures { Inkprinted text.now out.old out.new answer.new }
 {
-    let a = mark(text, out);
-    *answer = [a.number() as u64, a.place() as u64, a.written() as u64];
+    *answer = three_values(mark(text, out));
 }

@@ -11,15 +11,17 @@ mod filing;
 mod inking;
 mod moving;
 mod stamping;
+mod telling;
 
 pub use checking::tlopahuexi_check;
 pub use drawing::{tlopahuexi_make, tlopahuexi_show};
 pub use filing::{tlopahuexi_read_file, tlopahuexi_write_file};
 pub use inking::tlopahuexi_mark;
-use layout::emboss;
+use layout::{Laid, emboss};
 pub use moving::{tlopahuexi_date, tlopahuexi_undate};
 use pages::Sheet;
 pub use stamping::tlopahuexi_stamp;
+use table::Numbered;
 use translation::Setting;
 
 // Embosses a text that is followed by the symbol `following`, which is only looked at, by the
@@ -39,25 +41,31 @@ pub fn tlopahuexi_emboss(
 )
     ensures { Pressed image.now text.now following year width length out.old out.new answer.new }
 {
-    let a = emboss(
-        Setting {
-            following: following,
-            year: year,
-        },
-        image,
-        text,
-        Sheet {
-            width: width,
-            length: length,
-        },
-        out,
-    );
-    *answer = [
-        a.number() as u64,
-        a.place() as u64,
-        a.written() as u64,
-        a.pieces() as u64,
-        a.lines() as u64,
-        a.pages() as u64,
-    ];
+    let setting = Setting { following, year };
+    let sheet = Sheet { width, length };
+    *answer = match emboss(setting, image, text, sheet, out) {
+        Ok(
+            Laid {
+                written,
+                pieces,
+                lines,
+                pages,
+            },
+        ) => [
+            0,
+            0,
+            written as u64,
+            pieces as u64,
+            lines as u64,
+            pages as u64,
+        ],
+        Err(refusal) => [
+            u64::from(refusal.number()),
+            refusal.place() as u64,
+            0,
+            0,
+            0,
+            0,
+        ],
+    };
 }

@@ -3,6 +3,7 @@
 ghost use Rattle.dates.specs.Moving.{dating, undating};
 ghost use Rattle.calls.specs.Promises.{Recast};
 
+use crate::telling::three_values;
 use movers::{date, undate};
 
 // Writes a table without years in the form with years, each entry in force always, and stores the
@@ -12,8 +13,7 @@ use movers::{date, undate};
 pub fn tlopahuexi_date(image: &[u8], out: &mut [u8], answer: &mut [u64; 3])
     ensures { Recast (dating image.now out.old) out.new answer.new }
 {
-    let a = date(image, out);
-    *answer = [a.number() as u64, a.place() as u64, a.written() as u64];
+    *answer = three_values(date(image, out));
 }
 
 // Writes a table with years, whose entries are all in force always, in the form without, as
@@ -21,6 +21,5 @@ pub fn tlopahuexi_date(image: &[u8], out: &mut [u8], answer: &mut [u64; 3])
 pub fn tlopahuexi_undate(image: &[u8], out: &mut [u8], answer: &mut [u64; 3])
     ensures { Recast (undating image.now out.old) out.new answer.new }
 {
-    let a = undate(image, out);
-    *answer = [a.number() as u64, a.place() as u64, a.written() as u64];
+    *answer = three_values(undate(image, out));
 }

@@ -1,11 +1,11 @@
--- The loop over the pieces: what is printed so far, and then the signs of the pieces still to come from the cursor on, are the signs of all pieces, and
--- so with their number. A piece takes a character at least, so the definition's bound on the pieces is never met before the text ends.
+-- The loop over the pieces: what is printed so far, and then the signs of the pieces still to come from the rest, are the signs of all pieces, and so with
+-- their number. A piece takes a character at least, so the definition's bound on the pieces is never met before the text ends.
 use Prim.Native.Nat.{ℕ, zero, suc, ◌+◌, ◌-◌, ◌*◌, ◌≤◌, ◌<◌}
 use mathlib.Core.List.{List, [], ◌∷◌, ◌++◌, append_assoc, append-nil}
 use mathlib.Core.Path.{◌≡◌, refl, sym, ◌∙◌, ap, ap₂, subst}
 use native.Mathlib.Omega.{arith}
-use lib.ListN.{length, take, drop, length-drop, drop_of_length-le}
-use lib.Seq.{drop-drop, take_all}
+use lib.ListN.{length, take, drop, length-drop}
+use borrow.Rule.Slice.PartMut.{put_mid}
 use Rattle.table.specs.Numbers.{entry_signs}
 use Rattle.table.specs.Table.{Table, table_in}
 use Rattle.table.specs.declared.Sections.{Sections}
@@ -15,16 +15,17 @@ use Rattle.translation.specs.Pieces.{Piece, front_piece, pieces_from, pieces_in,
 use Rattle.translation.specs.inside.Opened.{Opened}
 use Rattle.translation.specs.inside.States.{states_in}
 use Rattle.translation.specs.inside.Making.{WroteUntil, MadeAs, Consumed}
+use Rattle.translation.specs.declared.Counts.{Counts}
 use Rattle.translation.specs.declared.Setting.{Setting}
 use Rattle.translation.specs.declared.variables.States.{States as Held}
 use Rattle.translation.specs.declared.piecing.Piece.{Piece as MadePiece}
-use Rattle.translation.proofs.Writing.{wrote_nothing, wrote_then}
+use Rattle.translation.proofs.Writing.{wrote_nothing, wrote_behind}
 use Rattle.translation.proofs.Chosen.{front_fits}
 use Rattle.translation.proofs.Signs.{printed_at_most}
 
--- the rest of the text from a place on, as it is lent
-pub rest_lent : (text : List ℕ) (at : ℕ) → take (length text - at) (drop at text) ≡ drop at text
-rest_lent text at = take_all (length text - at) (drop at text) (rw length-drop (omega arith))
+nothing_left : (rest : List ℕ) → length rest ≡ 0 → rest ≡ []
+nothing_left [] e = refl
+nothing_left (c ∷ rest) e = absurd (omega arith)
 
 -- ---- The definition, one piece after another
 
@@ -44,24 +45,29 @@ module _ (table : Table) (setting : Setting) where
 
 -- ---- The loop
 
+-- a piece takes a character at least, and no more than there are
+pub record Takes (rest : List ℕ) (shift : ℕ) : Type 0 where
+  pub least : 1 ≤ shift
+  pub most : shift ≤ length rest
+
 module _ (image : List ℕ) (s : Sections) (setting : Setting) (text before : List ℕ) where
   abbrev all : List Piece
   all = pieces_in (table_in image s) setting text
 
-  -- the pieces from the cursor on, where so many are made
-  abbrev to_come : States → ℕ → ℕ → List Piece
-  to_come now at pieces = pieces_from (table_in image s) setting (length text - pieces) now (drop at text)
+  -- the pieces of the rest, where so many are made
+  abbrev to_come : States → List ℕ → ℕ → List Piece
+  to_come now rest pieces = pieces_from (table_in image s) setting (length text - pieces) now rest
 
-  pub record Piecing (after : List ℕ) (held : Held) (at pieces next : ℕ) : Type 0 where
+  pub record Piecing (after : List ℕ) (held : Held) (rest : List ℕ) (counts : Counts) : Type 0 where
     pub done : List ℕ
-    pub wrote : WroteUntil before 0 done after next
-    pub four_each : next ≤ entry_signs * pieces
-    pub passed : pieces ≤ at
-    pub within : at ≤ length text
-    pub signs : done ++ signs_of (to_come (states_in s held) at pieces) ≡ signs_of all
-    pub counted : pieces + length (to_come (states_in s held) at pieces) ≡ length all
+    pub wrote : WroteUntil before 0 done after counts.signs
+    pub four_each : counts.signs ≤ entry_signs * counts.pieces
+    pub passed : counts.pieces + length rest ≤ length text
+    pub signs : done ++ signs_of (to_come (states_in s held) rest counts.pieces) ≡ signs_of all
+    pub counted : counts.pieces + length (to_come (states_in s held) rest counts.pieces) ≡ length all
 
-  pub piecing_starts : (held : Held) → states_in s held ≡ start_states (table_in image s) → Piecing before held 0 0 0
+  pub piecing_starts : (held : Held) → states_in s held ≡ start_states (table_in image s)
+      → Piecing before held text (record { pieces = 0; signs = 0 })
   unfolding pieces_in
   piecing_starts held e =
       record {
@@ -69,58 +75,63 @@ module _ (image : List ℕ) (s : Sections) (setting : Setting) (text before : Li
         wrote = wrote_nothing before 0 (omega arith);
         four_each = omega arith;
         passed = omega arith;
-        within = omega arith;
         signs = ap signs_of start;
         counted = let e = ap length start in omega arith;
       }
     where
-      start : to_come (states_in s held) 0 0 ≡ all
+      start : to_come (states_in s held) text 0 ≡ all
       start = ap₂ (λ (n : ℕ) (now : States). pieces_from (table_in image s) setting n now text) (omega arith) e
 
-  module _ {after : List ℕ} {held : Held} {at pieces next : ℕ} (p : Piecing after held at pieces next) where
+  module _ {after : List ℕ} {held : Held} {rest : List ℕ} {counts : Counts} (p : Piecing after held rest counts) where
     abbrev front : Piece
-    front = front_piece (table_in image s) setting (states_in s held) (drop at text)
+    front = front_piece (table_in image s) setting (states_in s held) rest
 
     -- the pieces to come are the one at the front and those after it
-    after_front : (made : MadePiece) (moves : Held) → at < length text → made.shift ≡ front.shift → made.class ≡ front.class
+    after_front : (made : MadePiece) (moves : Held) → 0 < length rest → made.shift ≡ front.shift → made.class ≡ front.class
         → states_in s moves ≡ moved (table_in image s) made.class (states_in s held)
-        → to_come (states_in s held) at pieces ≡ front ∷ to_come (states_in s moves) (at + made.shift) (pieces + 1)
+        → to_come (states_in s held) rest counts.pieces ≡ front ∷ to_come (states_in s moves) (drop made.shift rest) (counts.pieces + 1)
     after_front made moves l shift class e =
-        piece_to_come (table_in image s) setting (length text - pieces) (length text - (pieces + 1)) (states_in s held) (drop at text)
-        (let a = p.passed in omega arith) (rw length-drop (omega arith))
-        ∙ rw (← shift, ← class, ← e, drop-drop made.shift at text)
+        piece_to_come (table_in image s) setting (length text - counts.pieces) (length text - (counts.pieces + 1)) (states_in s held) rest
+        (let a = p.passed in omega arith) l
+        ∙ rw (← shift, ← class, ← e)
 
-    pub piecing_goes_on : {last : List ℕ} {made : MadePiece} {moves : Held} → Opened image s → at < length text → MadeAs front after next last made
+    pub takes : {lent part : List ℕ} {made : MadePiece} → Opened image s → 0 < length rest → MadeAs front lent part made → Takes rest made.shift
+    takes opened l m =
+        let f = front_fits (table_in image s) setting (sound_entries image s opened.laid opened.right) (states_in s held) rest l in
+        let shift = m.shift_is in
+        record { least = omega (arith, f.least); most = omega (arith, f.most) }
+
+    pub piecing_goes_on : {part : List ℕ} {made : MadePiece} {moves : Held} → Opened image s → 0 < length rest
+        → MadeAs front (take (length after - counts.signs) (drop counts.signs after)) part made
         → states_in s moves ≡ moved (table_in image s) made.class (states_in s held)
-        → Piecing last moves (at + made.shift) (pieces + 1) made.next
+        → Piecing (put_mid counts.signs (length after - counts.signs) after part) moves (drop made.shift rest)
+        (record { pieces = counts.pieces + 1; signs = counts.signs + made.signs })
     unfolding signs_of
-    piecing_goes_on {last} {made} {moves} opened l m e =
+    piecing_goes_on {part} {made} {moves} opened l m e =
         let right = sound_entries image s opened.laid opened.right in
-        let f = front_fits (table_in image s) setting right (states_in s held) (drop at text) (rw length-drop (omega arith)) in
+        let f = front_fits (table_in image s) setting right (states_in s held) rest l in
         let fewer = printed_at_most front.signs in
-        let rest = length-drop at text in
         let shift = m.shift_is in
         let place = m.wrote.place in
         let next_piece = after_front made moves l m.shift_is m.class_is e in
         record {
           done = p.done ++ printed front.signs;
-          wrote = wrote_then p.wrote m.wrote;
+          wrote = wrote_behind p.wrote m.wrote;
           four_each = omega (arith, p.four_each, f.few);
-          passed = omega (arith, p.passed, f.least);
-          within = omega (arith, f.most);
+          passed = rw length-drop (omega (arith, p.passed, f.least, f.most));
           signs =
-              append_assoc p.done (printed front.signs) (signs_of (to_come (states_in s moves) (at + made.shift) (pieces + 1)))
+              append_assoc p.done (printed front.signs) (signs_of (to_come (states_in s moves) (drop made.shift rest) (counts.pieces + 1)))
               ∙ rw next_piece at p.signs;
           counted = omega (arith, p.counted, ap length next_piece);
         }
 
-    pub piecing_ends : length text ≤ at → Consumed all before after (record { pieces = pieces; signs = next })
+    pub piecing_ends : length rest ≡ 0 → Consumed all before after counts
     unfolding signs_of
     piecing_ends l =
-        let ended = ap (pieces_from (table_in image s) setting (length text - pieces) (states_in s held)) (drop_of_length-le text l)
-        ∙ none_to_come (table_in image s) setting (length text - pieces) (states_in s held) in
+        let ended = ap (pieces_from (table_in image s) setting (length text - counts.pieces) (states_in s held)) (nothing_left rest l)
+        ∙ none_to_come (table_in image s) setting (length text - counts.pieces) (states_in s held) in
         record {
           counted = omega (arith, p.counted, ap length ended);
           wrote =
-              subst (λ (xs : List ℕ). WroteUntil before 0 xs after next) (sym (append-nil p.done) ∙ rw ended at p.signs) p.wrote;
+              subst (λ (xs : List ℕ). WroteUntil before 0 xs after counts.signs) (sym (append-nil p.done) ∙ rw ended at p.signs) p.wrote;
         }

@@ -13,8 +13,8 @@ use Rattle.table.specs.Numbers.{no_context, most_text}
 use Rattle.table.specs.Table.{Table, table_of}
 use Rattle.table.specs.Verdict.{verdict_of}
 use Rattle.table.specs.declared.Refusal.TheVariants.{Following}
-use Rattle.table.specs.declared.Verdict.{Verdict}
-use Rattle.table.specs.declared.Verdict.TheVariants.{Accepted, Refused as NotAccepted}
+use Rattle.std.specs.Prelude.{Ok, Err}
+use Rattle.table.specs.Answers.{Verdict}
 use Rattle.table.proofs.Search.{first_same}
 use Rattle.table.proofs.Sound.{accepted_sound}
 use Rattle.translation.proofs.Consumed.{consumed}
@@ -33,7 +33,7 @@ abbrev pub NoContexts : Table → Type 0
 NoContexts table = (k : ℕ) → k < length table.entries → (entry table k).context ≡ no_context
 
 -- the following symbol is never consumed: whichever it is, the pieces' characters, joined, are the collapsed text
-pub following_never_consumed : (image text : List ℕ) → verdict_of image ≡ Accepted → (setting : Setting)
+pub following_never_consumed : (image text : List ℕ) → verdict_of image ≡ Ok tt → (setting : Setting)
     → flatten (map characters (pieces_of (table_of image) setting text)) ≡ collapsed text
 unfolding pieces_of
 following_never_consumed image text accepted setting = consumed (table_of image) setting (accepted_sound image accepted) (collapsed text)
@@ -117,7 +117,7 @@ pub same_on_terms : (image text : List ℕ) (also : Verdict) (u v : Setting) →
     → SameUnless15 (translate_on (terms_with u also) image text) (translate_on (terms_with v also) image text)
 same_on_terms image text also u v same = go (verdict_of image) refl also refl
   where
-    lifted : verdict_of image ≡ Accepted → also ≡ Accepted → SameUnless15 (translate_by (table_of image) u text) (translate_by (table_of image) v text)
+    lifted : verdict_of image ≡ Ok tt → also ≡ Ok tt → SameUnless15 (translate_by (table_of image) u text) (translate_by (table_of image) v text)
         → SameUnless15 (translate_on (terms_with u also) image text) (translate_on (terms_with v also) image text)
     lifted e f (first_15 x) = first_15 (goes_on (terms_with u also) image text e f ∙ x)
     lifted e f (second_15 x) = second_15 (goes_on (terms_with v also) image text e f ∙ x)
@@ -125,8 +125,8 @@ same_on_terms image text also u v same = go (verdict_of image) refl also refl
 
     go : (w : Verdict) → verdict_of image ≡ w → (x : Verdict) → also ≡ x
         → SameUnless15 (translate_on (terms_with u also) image text) (translate_on (terms_with v also) image text)
-    go (NotAccepted r) e x f =
+    go (Err r) e x f =
         same_result (table_refused (terms_with u also) image text r e ∙ sym (table_refused (terms_with v also) image text r e))
-    go Accepted e (NotAccepted r) f =
+    go (Ok a) e (Err r) f =
         same_result (also_refused (terms_with u also) image text r e f ∙ sym (also_refused (terms_with v also) image text r e f))
-    go Accepted e Accepted f = lifted e f (same_by (table_of image) u v text same)
+    go (Ok a) e (Ok b) f = lifted e f (same_by (table_of image) u v text same)

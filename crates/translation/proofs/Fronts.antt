@@ -36,19 +36,19 @@ module _ (image : List ℕ) (s : Sections) (setting : Setting) (states : States)
 
   -- ---- As the code makes it
 
-  module _ {before : List ℕ} {n : ℕ} {after : List ℕ} {made : MadePiece} where
+  module _ {before after : List ℕ} {made : MadePiece} where
     pub made_by_entry : (k : ℕ) → chosen ≡ some k
-        → MadeByEntry (entry_at image s k) before n after made
-        → MadeAs front before n after made
+        → MadeByEntry (entry_at image s k) before after made
+        → MadeAs front before after made
     unfolding piece_by
     made_by_entry k e m =
-        subst (λ (p : Piece). MadeAs p before n after made) (sym (front_is (some k) e))
-        (subst (λ (x : Entry). MadeByEntry x before n after made) (sym (entry_at_lem image s k no_entry (chosen_there k e))) m)
+        subst (λ (p : Piece). MadeAs p before after made) (sym (front_is (some k) e))
+        (subst (λ (x : Entry). MadeByEntry x before after made) (sym (entry_at_lem image s k no_entry (chosen_there k e))) m)
 
     pub made_by_letter : 0 < length rest → chosen ≡ none
-        → MadeByLetter (letter_for (table_in image s).letters (get_or rest 0 0)) before n after made
-        → MadeAs front before n after made
+        → MadeByLetter (letter_for (table_in image s).letters (get_or rest 0 0)) before after made
+        → MadeAs front before after made
     unfolding piece_by
     made_by_letter l e m =
-        subst (λ (p : Piece). MadeAs p before n after made) (sym (front_is none e))
-        (subst (λ (c : ℕ). MadeByLetter (letter_for (table_in image s).letters c) before n after made) (get_or_there rest 0 0 blank l) m)
+        subst (λ (p : Piece). MadeAs p before after made) (sym (front_is none e))
+        (subst (λ (c : ℕ). MadeByLetter (letter_for (table_in image s).letters c) before after made) (get_or_there rest 0 0 blank l) m)

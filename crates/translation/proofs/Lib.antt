@@ -25,3 +25,4 @@ pub mod Without
 pub mod Limits
 pub mod Promises
 pub mod Accepted
+pub mod Library

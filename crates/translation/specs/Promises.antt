@@ -1,9 +1,8 @@
 -- What the public function of this crate promises, as a relation between what it is given and what it answers. proofs/Promises.antt shows that any two
 -- results that the promise allows are equal.
 use Rattle.std.specs.Prelude.{ℕ, List, ◌≡◌}
-use Rattle.translation.specs.Handed.{translation}
+use Rattle.translation.specs.Handed.{Translation, translation}
 use Rattle.translation.specs.declared.Terms.{Terms}
-use Rattle.translation.specs.declared.Translation.{Translation}
 
 -- `translate`: the answer of the definitions, and their signs in the buffer that was lent. The terms say what follows the text, the year, and what the
 -- caller's own checks say

@@ -1,12 +1,11 @@
 -- 'What comes back', as far as translation goes: the refusals of a table, then the caller's own, then 6, 7 and 15, or the pieces.
-use Rattle.std.specs.Prelude.{ℕ, true, false, List, length, leb}
+use Rattle.std.specs.Prelude.{ℕ, true, false, List, length, leb, Ok, Err}
 use Rattle.std.proofs.Math.Option.{none, some}
 use Rattle.table.specs.Numbers.{most_text}
 use Rattle.table.specs.Table.{Table, table_of}
 use Rattle.table.specs.Verdict.{verdict_of}
 use Rattle.table.specs.declared.Refusal.{Refusal}
 use Rattle.table.specs.declared.Refusal.TheVariants.{LongText, Unknown, Following}
-use Rattle.table.specs.declared.Verdict.TheVariants.{Accepted, Refused as NotAccepted}
 use Rattle.translation.specs.Letters.{is_known, first_unknown}
 use Rattle.translation.specs.Pieces.{Piece, pieces_of}
 use Rattle.translation.specs.declared.Setting.{Setting}
@@ -34,6 +33,6 @@ translate_by table setting text =
 unfoldable pub translate_on : Terms → List ℕ → List ℕ → Result
 translate_on terms image text =
     elim (verdict_of image) [
-      | Accepted ↦ elim terms.also [ Accepted ↦ translate_by (table_of image) terms.setting text | NotAccepted r ↦ refused r ]
-      | NotAccepted r ↦ refused r
+      | Ok accepted ↦ elim terms.also [ Ok allowed ↦ translate_by (table_of image) terms.setting text | Err r ↦ refused r ]
+      | Err r ↦ refused r
     ]

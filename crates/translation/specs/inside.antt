@@ -1,4 +1,5 @@
 pub mod Making
 pub mod Opened
+pub mod Tables
 pub mod States
 pub mod Computing

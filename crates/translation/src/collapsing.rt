@@ -1,58 +1,41 @@
 // Collapsing a text: bars go, line feeds become blanks, and of each run of blanks only the first is
 // kept, or the first two after a period.
 
-ghost use Rattle.std.specs.Prelude.{◌≡◌, ◌≤◌, ◌<◌, length};
+ghost use Rattle.std.specs.Prelude.{◌≡◌, ◌≤◌, length};
 ghost use Rattle.translation.specs.Collapse.{unfed, kept_after, collapsed};
 ghost use Rattle.translation.specs.inside.Making.{Thins, WroteUntil};
 
-// How far collapsing has come: how many characters are written, and how many blanks are kept of a
-// run that stands here.
-#[derive(Clone, Copy)]
-struct Run {
-    written: usize,
-    kept: u8,
-}
-
 // The character, or a blank for a line feed.
+#[tactic(auto, unfolding(crate::specs::Collapse::unfed))]
 pub(crate) fn unfed(c: u8) -> u8
     ensures { result ≡ unfed c }
 {
-    if c == 10 { 32 } else { c }
+    if c == b'\n' { b' ' } else { c }
 }
 
 // How many blanks are kept of a run that follows this character.
+#[tactic(auto, unfolding(crate::specs::Collapse::kept_after))]
 fn kept_after(c: u8) -> u8
     ensures { result ≡ kept_after c }
 {
-    if c == 46 { 2 } else { 1 }
+    if c == b'.' { 2 } else { 1 }
 }
 
-// Takes the next lent character: writes it, a blank for a line feed, or passes it over.
-fn thin(c: u8, run: Run, out: &mut [u8]) -> Run
-    requires { run.written < length out.old }
-    ensures { Thins c run out.old result out.new }
+// What is written for the next lent character, a blank for a line feed, or nothing where it is
+// passed over. `kept` is how many blanks are kept of a run that stands here.
+fn thin(c: u8, kept: &mut u8) -> Option<u8>
+    ensures { Thins c kept.old result kept.new }
 {
-    if c == 124 {
-        return run;
+    if c == b'|' {
+        return None;
     }
-    let d = unfed(c);
-    let at = run.written;
-    let kept = run.kept;
-    if d == 32 {
-        if kept == 0 {
-            return run;
-        }
-        out[at] = d;
-        return Run {
-            written: at + 1,
-            kept: kept - 1,
-        };
+    let c = unfed(c);
+    if c == b' ' {
+        *kept = kept.checked_sub(1)?;
+    } else {
+        *kept = kept_after(c);
     }
-    out[at] = d;
-    Run {
-        written: at + 1,
-        kept: kept_after(d),
-    }
+    Some(c)
 }
 
 // Collapses the text into the front of `out` and answers how many characters that are.
@@ -60,14 +43,13 @@ pub(crate) fn collapse(text: &[u8], out: &mut [u8]) -> usize
     requires { length text.now ≤ length out.old }
     ensures { WroteUntil out.old 0 (collapsed text.now) out.new result }
 {
-    let mut run = Run {
-        written: 0,
-        kept: 1,
-    };
-    let mut i = 0;
-    while i < text.len() {
-        run = thin(text[i], run, out);
-        i += 1;
+    let mut kept = 1;
+    let mut n = 0;
+    for c in text {
+        if let Some(c) = thin(*c, &mut kept) {
+            out[n] = c;
+            n += 1;
+        }
     }
-    run.written
+    n
 }

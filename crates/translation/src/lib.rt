@@ -10,14 +10,15 @@ mod collapsing;
 mod deciding;
 mod piecing;
 mod translating;
+mod translator;
 mod variables;
 
-use table::{Refusal, Verdict};
+use table::Refusal;
 pub use translating::translate;
 
 // What a translation is told besides the table and the text: the symbol that follows the end of the
 // text, which is looked at and never consumed, and the year by whose entries the text is printed.
-#[derive(Clone, Copy)]
+#[derive(Clone, Copy, Debug, PartialEq, Eq)]
 pub struct Setting {
     pub following: u8,
     pub year: u16,
@@ -25,15 +26,15 @@ pub struct Setting {
 
 // On which terms a text is translated: its setting, and what the caller's own checks say, which
 // come after the table's and before the text's.
-#[derive(Clone, Copy)]
+#[derive(Clone, Copy, Debug, PartialEq, Eq)]
 pub struct Terms {
     pub setting: Setting,
-    pub also: Verdict,
+    pub also: Result<(), Refusal>,
 }
 
-// What a translation answers: how many pieces and how many signs, or the refusal.
-#[derive(Clone, Copy)]
-pub enum Translation {
-    Done { pieces: usize, signs: usize },
-    Refused(Refusal),
+// What a translation answers: how many pieces and how many signs.
+#[derive(Clone, Copy, Debug, PartialEq, Eq)]
+pub struct Counts {
+    pub pieces: usize,
+    pub signs: usize,
 }

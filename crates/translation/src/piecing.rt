@@ -3,32 +3,21 @@
 
 ghost use Rattle.std.specs.Prelude.{◌≡◌, cond, [], ◌∷◌, ◌+◌, ◌*◌, ◌≤◌, ◌<◌, eqb, length};
 ghost use Rattle.table.specs.Numbers.{entry_signs, other_blank, blank_cell};
-ghost use Rattle.table.specs.Table.{table_in, entry_at};
 ghost use Rattle.translation.specs.Letters.{letter_for};
 ghost use Rattle.translation.specs.Pieces.{printed, front_piece, pieces_in};
-ghost use Rattle.translation.specs.inside.Opened.{Opened};
-ghost use Rattle.translation.specs.inside.States.{states_in};
 ghost use Rattle.translation.specs.inside.Making.{WroteUntil, MadeByEntry, MadeByLetter, MadeAs, Consumed};
+ghost use Rattle.translation.specs.inside.Tables.{table_by, entry_by, states_by};
 
-use crate::Setting;
-use crate::alphabet::{class_of, sign_of};
-use crate::choosing::search;
-use crate::variables::{States, moved, start};
-use table::{Found, Sections};
+use crate::Counts;
+use crate::translator::Translator;
+use crate::variables::States;
 
-// A piece that is made: how many characters it takes, its class, and the place after its signs.
+// A piece that is made: how many characters it takes, its class, and how many signs it prints.
 #[derive(Clone, Copy)]
 struct Piece {
     shift: usize,
     class: u8,
-    next: usize,
-}
-
-// How many pieces a text has, and how many signs they print.
-#[derive(Clone, Copy)]
-pub(crate) struct Counts {
-    pub(crate) pieces: usize,
-    pub(crate) signs: usize,
+    signs: usize,
 }
 
 // A sign as it is written: 64 as the blank.
@@ -38,108 +27,94 @@ fn cell_of(sign: u8) -> u8
     if sign == 64 { 0 } else { sign }
 }
 
-// Writes a sign, unless it is 99, and answers the place after it.
-fn print(sign: u8, signs: &mut [u8], at: usize) -> usize
-    requires { at < length signs.old }
-    ensures { WroteUntil signs.old at (printed (sign ∷ [])) signs.new result }
+// Writes a sign at the front, unless it is 99, and answers how many that are.
+fn print(sign: u8, signs: &mut [u8]) -> usize
+    requires { 0 < length signs.old }
+    ensures { WroteUntil signs.old 0 (printed (sign ∷ [])) signs.new result }
 {
     if sign == 99 {
-        return at;
+        return 0;
     }
-    signs[at] = cell_of(sign);
-    at + 1
+    signs[0] = cell_of(sign);
+    1
 }
 
-// Writes the signs of an entry one after another, and answers the place after them.
-fn print_all(list: &[u8], signs: &mut [u8], at: usize) -> usize
-    requires { at + length list.now ≤ length signs.old }
-    ensures { WroteUntil signs.old at (printed list.now) signs.new result }
+// Writes the signs of an entry one after another from the front, and answers how many that are.
+fn print_all(list: &[u8], signs: &mut [u8]) -> usize
+    requires { length list.now ≤ length signs.old }
+    ensures { WroteUntil signs.old 0 (printed list.now) signs.new result }
 {
-    let mut next = at;
-    let mut i = 0;
-    while i < list.len() {
-        next = print(list[i], signs, next);
-        i += 1;
+    let mut n = 0;
+    for sign in list {
+        n += print(*sign, &mut signs[n..]);
     }
-    next
+    n
 }
 
-// The piece of entry `k`: its shift, its class and its signs.
-fn by_entry(image: &[u8], s: Sections, k: u16, signs: &mut [u8], at: usize) -> Piece
-    requires opened { Opened image.now s }
-    requires there { (k < s.contractions.records) × (at + entry_signs ≤ length signs.old) }
-    ensures { MadeByEntry (entry_at image.now s k) signs.old at signs.new result }
-{
-    let entries = s.contractions;
-    let next = print_all(framing::record_part(image, entries, k, 14, 4), signs, at);
-    Piece {
-        shift: framing::record_byte(image, entries, k, 13) as usize,
-        class: framing::record_byte(image, entries, k, 12),
-        next: next,
+impl Translator<'_> {
+    // The piece of entry `k`: its shift, its class and its signs.
+    fn by_entry(&self, k: u16, signs: &mut [u8]) -> Piece
+        requires there { k < self.now.sections.contractions.records }
+        requires room { entry_signs ≤ length signs.old }
+        ensures { MadeByEntry (entry_by self.now k) signs.old signs.new result }
+    {
+        let entries = self.sections.contractions;
+        Piece {
+            shift: usize::from(framing::record_byte(self.image, entries, k, 13)),
+            class: framing::record_byte(self.image, entries, k, 12),
+            signs: print_all(framing::record_part(self.image, entries, k, 14, 4), signs),
+        }
     }
-}
 
-// The piece of a character alone: its class and its sign.
-fn by_letter(image: &[u8], s: Sections, c: u8, signs: &mut [u8], at: usize) -> Piece
-    requires opened { Opened image.now s }
-    requires room { at < length signs.old }
-    ensures { MadeByLetter (letter_for (table_in image.now s).letters c) signs.old at signs.new result }
-{
-    let next = print(sign_of(image, s, c), signs, at);
-    Piece {
-        shift: 1,
-        class: class_of(image, s, c),
-        next: next,
+    // The piece of a character alone: its class and its sign.
+    fn by_letter(&self, c: u8, signs: &mut [u8]) -> Piece
+        requires { 0 < length signs.old }
+        ensures { MadeByLetter (letter_for (table_by self.now).letters c)
+            signs.old signs.new result }
+    {
+        let letter = self.letter_for(c);
+        Piece {
+            shift: 1,
+            class: letter.class,
+            signs: print(letter.sign, signs),
+        }
     }
-}
 
-// The piece at the front of the rest: by the first admissible entry, or by the character alone
-// where there is none.
-fn front_piece(
-    image: &[u8],
-    s: Sections,
-    setting: Setting,
-    states: States,
-    rest: &[u8],
-    signs: &mut [u8],
-    at: usize,
-) -> Piece
-    requires opened { Opened image.now s }
-    requires more { (0 < length rest.now) × (at + entry_signs ≤ length signs.old) }
-    ensures { MadeAs (front_piece (table_in image.now s) setting (states_in s states) rest.now)
-        signs.old at signs.new result }
-{
-    match search(image, s, setting, states, rest) {
-        Found::At(k) => by_entry(image, s, k, signs, at),
-        Found::Nothing => by_letter(image, s, rest[0], signs, at),
+    // The piece at the front of the rest: by the first admissible entry, or by the character alone
+    // where there is none.
+    fn front_piece(&self, states: &States, rest: &[u8], signs: &mut [u8]) -> Piece
+        requires more { 0 < length rest.now }
+        requires room { entry_signs ≤ length signs.old }
+        ensures { MadeAs
+            (front_piece (table_by self.now) self.now.setting
+            (states_by self.now states.now) rest.now)
+            signs.old signs.new result }
+    {
+        match self.search(states, rest) {
+            Some(k) => self.by_entry(k, signs),
+            None => self.by_letter(rest[0], signs),
+        }
     }
-}
 
-// All pieces of the text, their signs written from the front.
-pub(crate) fn consume(
-    image: &[u8],
-    s: Sections,
-    setting: Setting,
-    text: &[u8],
-    signs: &mut [u8],
-) -> Counts
-    requires opened { Opened image.now s }
-    requires room { entry_signs * length text.now ≤ length signs.old }
-    ensures { Consumed (pieces_in (table_in image.now s) setting text.now) signs.old signs.new result }
-{
-    let mut states = start();
-    let mut at = 0;
-    let mut pieces: usize = 0;
-    let mut next = 0;
-    while at < text.len() {
-        let made = front_piece(image, s, setting, states, &text[at..], signs, next);
-        pieces += 1;
-        next = made.next;
-        at += made.shift;
-        states = moved(image, s, states, made.class);
-    }
-    Counts {
-        pieces: pieces,
-        signs: next,
+    // All pieces of the text, their signs written from the front.
+    pub(crate) fn consume(&self, text: &[u8], signs: &mut [u8]) -> Counts
+        requires { entry_signs * length text.now ≤ length signs.old }
+        ensures { Consumed (pieces_in (table_by self.now) self.now.setting text.now)
+            signs.old signs.new result }
+    {
+        let mut states = States::start();
+        let mut rest = text;
+        let mut counts = Counts {
+            pieces: 0,
+            signs: 0,
+        };
+        while !rest.is_empty() {
+            let made = self.front_piece(&states, rest, &mut signs[counts.signs..]);
+            counts.pieces += 1;
+            counts.signs += made.signs;
+            rest = &rest[made.shift..];
+            states = self.moved(states, made.class);
+        }
+        counts
     }
 }

@@ -3,13 +3,10 @@
 
 ghost use Rattle.std.specs.Prelude.{◌≡◌, false, replicate};
 ghost use Rattle.table.specs.Numbers.{most_variables};
-ghost use Rattle.table.specs.Table.{table_in};
 ghost use Rattle.translation.specs.Decide.{turned, moved};
-ghost use Rattle.translation.specs.inside.Opened.{Opened};
-ghost use Rattle.translation.specs.inside.States.{states_in};
+ghost use Rattle.translation.specs.inside.Tables.{table_by, states_by};
 
-use crate::deciding::byte_of_class;
-use table::Sections;
+use crate::translator::Translator;
 
 // The states of the variables, as a value: yes or no for each of at most fifteen.
 #[derive(Clone, Copy)]
@@ -17,44 +14,41 @@ pub(crate) struct States {
     pub(crate) yes: [bool; 15],
 }
 
-// All state variables start at no.
-pub(crate) fn start() -> States
-    ensures { result.yes ≡ replicate most_variables false }
-{
-    States { yes: [false; 15] }
+impl States {
+    // All state variables start at no.
+    pub(crate) fn start() -> States
+        ensures { result.yes ≡ replicate most_variables false }
+    {
+        States { yes: [false; 15] }
+    }
 }
 
 // What a transition byte makes of a state: R no, S yes, T the other, - as it was.
+#[tactic(auto, unfolding(crate::specs::Decide::turned))]
 fn turned(b: u8, was: bool) -> bool
     ensures { result ≡ turned b was }
 {
-    if b == 82 {
-        return false;
+    match b {
+        b'R' => false,
+        b'S' => true,
+        b'T' => !was,
+        _ => was,
     }
-    if b == 83 {
-        return true;
-    }
-    if b == 84 {
-        return !was;
-    }
-    was
 }
 
-// The states after a piece of class `c`.
-pub(crate) fn moved(image: &[u8], s: Sections, states: States, c: u8) -> States
-    requires { Opened image.now s }
-    ensures { states_in s result ≡ moved (table_in image.now s) c (states_in s states) }
-{
-    let transitions = s.transitions;
-    let classes = s.classes;
-    let n = transitions.records;
-    let mut yes = states.yes;
-    let mut v: u16 = 0;
-    while v < n {
-        let i = v as usize;
-        let b = byte_of_class(image, transitions, v, classes, c);
-        yes[i] = turned(b, yes[i]);
-        v += 1;
+impl Translator<'_> {
+    // The states after a piece of class `c`.
+    pub(crate) fn moved(&self, states: States, c: u8) -> States
+        ensures { states_by self.now result
+            ≡ moved (table_by self.now) c (states_by self.now states) }
+    {
+        let transitions = self.sections.transitions;
+        let mut yes = states.yes;
+        for v in 0..transitions.records {
+            let i = usize::from(v);
+            let b = self.byte_of_class(transitions, v, c);
+            yes[i] = turned(b, yes[i]);
+        }
+        States { yes }
     }
-    States { yes: yes }
 }

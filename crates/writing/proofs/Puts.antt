@@ -5,33 +5,27 @@ use Prim.Native.Nat.{ℕ, zero, suc, ◌+◌, ◌-◌, ◌*◌, ◌/◌, ◌%◌
 use mathlib.Core.Bool.{Bool, true, false}
 use mathlib.Core.List.{List, [], ◌∷◌, ◌++◌, append-nil, append_assoc}
 use mathlib.Core.Path.{◌≡◌, refl, sym, ◌∙◌, ap}
-use native.Mathlib.Nat.{add-zero}
+use native.Mathlib.Nat.{add-zero, zero-add}
 use native.Mathlib.Numerals.{add-one}
 use native.Mathlib.Omega.{arith}
 use lib.Dec.{ltb}
-use lib.ListN.{length, get_or, set, take, replicate, length-append, replicate-append-replicate}
-use lib.Seq.{set_out, take-suc}
+use lib.ListN.{length, get_or, take, drop, replicate, length-drop, length-append, replicate-append-replicate}
+use lib.Seq.{take-suc, length-take-le}
+use Rattle.std.proofs.Common.{get_or-drop, get_or-take}
 use borrow.Author.Tests.{lt-ltb, le-ltb, eq-eqb, ne_eqb}
 use Rattle.table.specs.Numbers.{blank}
 use Rattle.table.proofs.Wrote.{put_then, wrote_length}
 use Rattle.form.specs.Numbers.{space, zero_digit, underscore, backslash}
 use Rattle.form.specs.Words.{is_escaped}
 use Rattle.form.specs.Showing.{spaces, decimal_in, decimal, rightward, shown_number, shown_mark_or, shown_symbol, shown_symbols, leftward}
+use Rattle.writing.specs.declared.putting.Pen.{Pen}
 use Rattle.writing.specs.inside.Puts.{Puts}
+use Rattle.writing.specs.inside.Penned.{Penned}
 
 -- ---- Bytes that are put
 
 pub puts_none : (l : List ℕ) (at : ℕ) → Puts l at [] at l
 puts_none l at = record { goes = sym (add-zero at); writes = λ _. record { leaves = refl } }
-
--- one byte, where there is room for it
-pub puts_one : {before after : List ℕ} {at byte : ℕ} → after ≡ set before at byte → Puts before at (byte ∷ []) (at + 1) after
-puts_one e = record { goes = refl; writes = λ _. record { leaves = e } }
-
--- and where there is none
-pub puts_past : {before after : List ℕ} {at : ℕ} (byte : ℕ) → length before ≤ at → after ≡ before → Puts before at (byte ∷ []) (at + 1) after
-puts_past {before} {after} {at} byte past e =
-    record { goes = refl; writes = λ _. record { leaves = e ∙ sym (set_out before at byte past) } }
 
 -- the second run where the first ends
 pub puts_then : {before mid after xs ys : List ℕ} {at m r : ℕ} → Puts before at xs m mid → Puts mid m ys r after → Puts before at (xs ++ ys) r after
@@ -47,18 +41,30 @@ puts_then {before} {mid} {after} {xs} {ys} {at} {m} {r} p q =
           record { leaves = put_then before mid after at xs ys w.leaves (q.writes (omega arith)).leaves first };
     }
 
--- the same bytes by another name
-pub puts_as : {before after xs ys : List ℕ} {at r : ℕ} → xs ≡ ys → Puts before at xs r after → Puts before at ys r after
-puts_as e p = rw e at p
+-- ---- Bytes that a pen puts: nothing, one run after another, the same bytes by another name
+
+pub pens_none : (pen : Pen) → Penned pen [] pen
+pens_none pen = record { puts = puts_none pen.out.now pen.at; same_output = refl }
+
+pub pens_then : {before mid after : Pen} {xs ys : List ℕ} → Penned before xs mid → Penned mid ys after → Penned before (xs ++ ys) after
+pens_then p q = record { puts = puts_then p.puts q.puts; same_output = q.same_output ∙ p.same_output }
+
+pub pens_as : {before after : Pen} {xs ys : List ℕ} → xs ≡ ys → Penned before xs after → Penned before ys after
+pens_as e p = rw e at p
+
+-- what a pen has put over a whole output
+pub puts_whole : {before after : Pen} {out left bytes : List ℕ} → before.out.now ≡ out → before.at ≡ 0 → left ≡ after.out.now → Penned before bytes after
+    → Puts out 0 bytes after.at left
+puts_whole o z l p = rw (o, z, ← l) at p.puts
 
 -- one byte more of a run, and the same byte once more
-pub run_longer : {before mid after : List ℕ} {at m r : ℕ} (bytes : List ℕ) (j : ℕ) → j < length bytes
-    → Puts before at (take j bytes) m mid → Puts mid m (get_or bytes j 0 ∷ []) r after → Puts before at (take (j + 1) bytes) r after
-run_longer bytes j there p q = puts_as (sym (rw (add-one j) (take-suc bytes j 0 there))) (puts_then p q)
+pub run_longer : {before mid after : Pen} (bytes : List ℕ) (j : ℕ) → j < length bytes → Penned before (take j bytes) mid
+    → Penned mid (get_or bytes j 0 ∷ []) after → Penned before (take (j + 1) bytes) after
+run_longer bytes j there p q = pens_as (sym (rw (add-one j) (take-suc bytes j 0 there))) (pens_then p q)
 
-pub same_longer : {before mid after : List ℕ} {at m r : ℕ} (j byte : ℕ)
-    → Puts before at (replicate j byte) m mid → Puts mid m (byte ∷ []) r after → Puts before at (replicate (j + 1) byte) r after
-same_longer j byte p q = puts_as (replicate-append-replicate j 1 byte) (puts_then p q)
+pub same_longer : {before mid after : Pen} (j byte : ℕ) → Penned before (replicate j byte) mid → Penned mid (byte ∷ []) after
+    → Penned before (replicate (j + 1) byte) after
+same_longer j byte p q = pens_as (replicate-append-replicate j 1 byte) (pens_then p q)
 
 -- ---- A number in decimal
 
@@ -109,16 +115,16 @@ decimal_few n = digits_few 4 n
 -- ---- A word in its columns
 
 -- blanks, and then the word
-pub puts_rightward : {before mid after : List ℕ} {at m r : ℕ} (width : ℕ) (word : List ℕ) {blanks : ℕ} → blanks ≡ suc (width - length word)
-    → Puts before at (spaces blanks) m mid → Puts mid m word r after → Puts before at (rightward width word) r after
+pub pens_rightward : {before mid after : Pen} (width : ℕ) (word : List ℕ) {blanks : ℕ} → blanks ≡ suc (width - length word)
+    → Penned before (spaces blanks) mid → Penned mid word after → Penned before (rightward width word) after
 unfolding rightward
-puts_rightward width word e p q = puts_as (ap (λ (k : ℕ). spaces k ++ word) e) (puts_then p q)
+pens_rightward width word e p q = pens_as (ap (λ (k : ℕ). spaces k ++ word) e) (pens_then p q)
 
 -- a blank, the word, and then blanks
-pub puts_leftward : {before mid last after : List ℕ} {at m l r : ℕ} (width : ℕ) (word : List ℕ) {blanks : ℕ} → blanks ≡ width - length word
-    → Puts before at (space ∷ []) m mid → Puts mid m word l last → Puts last l (spaces blanks) r after → Puts before at (leftward width word) r after
+pub pens_leftward : {before mid last after : Pen} (width : ℕ) (word : List ℕ) {blanks : ℕ} → blanks ≡ width - length word
+    → Penned before (space ∷ []) mid → Penned mid word last → Penned last (spaces blanks) after → Penned before (leftward width word) after
 unfolding leftward
-puts_leftward width word e p q t = puts_as (ap (λ (k : ℕ). space ∷ word ++ spaces k) e) (puts_then p (puts_then q t))
+pens_leftward width word e p q t = pens_as (ap (λ (k : ℕ). space ∷ word ++ spaces k) e) (pens_then p (pens_then q t))
 
 pub mark_same : (width mark value n : ℕ) → n ≡ value → shown_mark_or width mark value n ≡ rightward width (mark ∷ [])
 unfolding shown_mark_or
@@ -129,12 +135,6 @@ pub mark_other : (width mark value n : ℕ) → (n ≡ value → ⊥) → shown_
 unfolding shown_mark_or
 mark_other width mark value n other =
     ap (λ (t : Bool). elim t [ true ↦ rightward width (mark ∷ []) | false ↦ shown_number width n ]) (ne_eqb n value other)
-
--- a list of one element
-pub only_one : (l : List ℕ) → length l ≡ 1 → l ≡ get_or l 0 0 ∷ []
-only_one [] e = absurd (omega arith)
-only_one (x ∷ []) e = refl
-only_one (x ∷ y ∷ ys) e = absurd (omega arith)
 
 -- ---- Symbols
 
@@ -159,7 +159,31 @@ symbols_more bytes at (suc n) =
     ap (λ (r : List ℕ). shown_symbol (get_or bytes at 0) ++ r) (symbols_more bytes (suc at) n ∙ ap (λ (k : ℕ). shown_symbols bytes (suc at) n ++ shown_symbol (get_or bytes k 0)) next)
     ∙ sym (append_assoc (shown_symbol (get_or bytes at 0)) (shown_symbols bytes (suc at) n) (shown_symbol (get_or bytes (at + suc n) 0)))
 
-pub symbols_longer : {before mid after : List ℕ} {at m r : ℕ} (bytes : List ℕ) (from j : ℕ)
-    → Puts before at (shown_symbols bytes from j) m mid → Puts mid m (shown_symbol (get_or bytes (from + j) 0)) r after
-    → Puts before at (shown_symbols bytes from (j + 1)) r after
-symbols_longer bytes from j p q = puts_as (sym (rw (add-one j) (symbols_more bytes from j))) (puts_then p q)
+pub symbols_longer : {before mid after : Pen} (bytes : List ℕ) (j : ℕ) → Penned before (shown_symbols bytes 0 j) mid
+    → Penned mid (shown_symbol (get_or bytes j 0)) after → Penned before (shown_symbols bytes 0 (j + 1)) after
+symbols_longer bytes j p q = pens_as (sym (rw (add-one j) (symbols_more bytes 0 j))) (pens_then p (pens_as (ap (λ (k : ℕ). shown_symbol (get_or bytes k 0)) (sym (zero-add j))) q))
+
+-- a byte of a part of a record
+pub part_get : (bytes : List ℕ) (from n k : ℕ) → k < n → get_or (take (from + n - from) (drop from bytes)) k 0 ≡ get_or bytes (from + k) 0
+part_get bytes from n k h = get_or-take (from + n - from) (drop from bytes) k 0 (omega arith) ∙ get_or-drop from bytes k 0
+
+pub part_length : (bytes : List ℕ) (from n : ℕ) → from + n ≤ length bytes → length (take (from + n - from) (drop from bytes)) ≡ n
+part_length bytes from n h =
+    let all : from + n - from ≡ n = omega arith in
+    length-take-le (from + n - from) (drop from bytes) (simp length-drop (omega arith)) ∙ all
+
+-- the symbols of a part of a record
+part_symbols : (bytes : List ℕ) (from n k m : ℕ) → k + m ≤ n → shown_symbols (take n (drop from bytes)) k m ≡ shown_symbols bytes (from + k) m
+unfolding shown_symbols
+part_symbols bytes from n k zero h = refl
+part_symbols bytes from n k (suc m) h =
+    let here : get_or (take n (drop from bytes)) k 0 ≡ get_or bytes (from + k) 0 = get_or-take n (drop from bytes) k 0 (omega arith) ∙ get_or-drop from bytes k 0 in
+    let next : suc (from + k) ≡ from + suc k = omega arith in
+    rw (here, part_symbols bytes from n (suc k) m (omega arith), next)
+
+pub symbols_of_part : (bytes : List ℕ) (from n : ℕ) → from + n ≤ length bytes
+    → shown_symbols (take (from + n - from) (drop from bytes)) 0 (length (take (from + n - from) (drop from bytes))) ≡ shown_symbols bytes from n
+symbols_of_part bytes from n fits =
+    ap (shown_symbols (take (from + n - from) (drop from bytes)) 0) (part_length bytes from n fits)
+    ∙ part_symbols bytes from (from + n - from) 0 n (omega arith)
+    ∙ ap (λ (k : ℕ). shown_symbols bytes k n) (add-zero from)

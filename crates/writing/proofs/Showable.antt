@@ -9,13 +9,14 @@ use lib.Dec.{eqb}
 use lib.ListN.{length, get_or}
 use Rattle.table.specs.Numbers.{most_length, dated_entry_size, entry_size}
 use Rattle.table.specs.Sections.{is_dated, sections_of, offset, record_part}
-use Rattle.table.specs.Records.{contractions, section_named}
+use Rattle.table.specs.Records.{section_named}
+use Rattle.table.specs.declared.SectionName.TheVariants.{Contractions as contractions}
 use Rattle.table.specs.Laid.{SectionsLaid}
 use Rattle.table.specs.Refusals.{RecordsRight}
 use Rattle.table.specs.Verdict.{verdict_of}
 use Rattle.table.specs.declared.Section.{Section}
 use Rattle.table.specs.declared.Sections.{Sections}
-use Rattle.table.specs.declared.Verdict.TheVariants.{Accepted}
+use Rattle.std.specs.Prelude.{Ok}
 use Rattle.table.proofs.Forms.{dated_size, undated_size, entry_long}
 use Rattle.table.proofs.Reading.{part_long, part_at, accepted_laid, accepted_right}
 use Rattle.form.specs.Fields.{fields_of, sizes_of}
@@ -49,7 +50,7 @@ transition_not e = let no : ◌≡◌ {A = ℕ} 0 1 = cc in omega arith
 decision_not : Decision ≡ Entry → ⊥
 decision_not e = let no : ◌≡◌ {A = ℕ} 0 1 = cc in omega arith
 
-module _ (image : List ℕ) (accepts : verdict_of image ≡ Accepted) where
+module _ (image : List ℕ) (accepts : verdict_of image ≡ Ok tt) where
   abbrev s : Sections
   s = sections_of image
 
@@ -130,5 +131,5 @@ module _ (image : List ℕ) (accepts : verdict_of image ≡ Accepted) where
       }
 
 -- by the sections as they were found
-pub showable_by : (image : List ℕ) (s : Sections) (d : Draft) → s ≡ sections_of image → d ≡ head_of s → verdict_of image ≡ Accepted → Showable d image s
+pub showable_by : (image : List ℕ) (s : Sections) (d : Draft) → s ≡ sections_of image → d ≡ head_of s → verdict_of image ≡ Ok tt → Showable d image s
 showable_by image s d located head accepts = rw (head, located) (accepted_showable image accepts)

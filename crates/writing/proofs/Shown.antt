@@ -1,7 +1,8 @@
 -- Laws of what `show` writes, one step of a loop or one case of a test each: signs, years, the fields of a record, the records of a section, and the call.
 use Prim.Native.Nat.{ℕ, zero, suc, ◌+◌, ◌-◌, ◌*◌, ◌≤◌, ◌<◌}
-use mathlib.Core.Bool.{Bool, true, false, cond, ◌&&◌}
+use mathlib.Core.Bool.{Bool, true, false, cond}
 use mathlib.Core.List.{List, [], ◌∷◌, ◌++◌, flatten, append_assoc, append-nil}
+use mathlib.Core.Logic.{◌⊎◌, inl, inr}
 use mathlib.Core.Path.{◌≡◌, refl, sym, ◌∙◌, ap, subst}
 use native.Mathlib.Nat.{zero-add}
 use native.Mathlib.Numerals.{add-one}
@@ -19,21 +20,20 @@ use Rattle.table.specs.declared.Refusal.{Refusal}
 use Rattle.table.specs.declared.Refusal.TheVariants.{Room}
 use Rattle.table.specs.declared.Section.{Section}
 use Rattle.table.specs.declared.Sections.{Sections}
-use Rattle.table.specs.declared.Verdict.TheVariants.{Accepted, Refused as NotAccepted}
 use Rattle.form.specs.Numbers.{line_feed, from_word, to_word}
 use Rattle.form.specs.Fields.{spelled, fields_of, size_of, sizes_of}
 use Rattle.form.specs.Showing.{spaces, rightward, shown_number, signs_before, shown_numbers, shown_year, shown_years, shown_signs, shown_tail, shown_field, shown_fields, shown_line, head_of, shown_record, shown_section, shown_in, shown}
 use Rattle.form.specs.Calls.{Outcome, refused, done, roomed, showing}
 use Rattle.form.specs.Promises.{Ends}
+use Rattle.form.specs.declared.Undrawn.TheVariants.{Refused}
+use Rattle.std.specs.Prelude.{Ok, Err}
 use Rattle.writing.specs.inside.Puts.{Puts, Stringed, Fitting}
 use Rattle.form.specs.inside.Steps.{Modest}
 use Rattle.form.specs.declared.Draft.{Draft}
-use Rattle.form.specs.declared.Drawn.TheVariants.{Done, Refused}
 use Rattle.form.specs.declared.Field.{Field}
-use Rattle.form.specs.declared.Field.TheVariants.{Symbol, Row, Tail}
+use Rattle.form.specs.declared.Field.TheVariants.{Symbol, Row}
 use Rattle.form.specs.declared.Keyword.{Keyword}
 use Rattle.form.specs.declared.Keyword.TheVariants.{Dated, Classes, Variables, Letter, Entry, Context, Transition, Decision}
-use Rattle.writing.proofs.Puts.{puts_as}
 
 -- ---- Signs
 
@@ -78,23 +78,17 @@ module _ (word : List ℕ) (unsaid n : ℕ) where
   year_said d = rw (ne_eqb n unsaid d, shown_year)
 
 module _ (missing first last : ℕ) where
-  pub years_always : (eqb first earliest_year && eqb last latest_year) ≡ true → [] ≡ shown_years missing first last
+  pub years_always : first ≡ earliest_year → last ≡ latest_year → [] ≡ shown_years missing first last
   unfolding shown_years
-  years_always e = rw (e, shown_years)
+  years_always e l = rw (eq-eqb first earliest_year e, eq-eqb last latest_year l, shown_years)
 
-  pub years_said : (eqb first earliest_year && eqb last latest_year) ≡ false
+  pub years_said : ((first ≡ earliest_year) × (last ≡ latest_year → ⊥)) ⊎ (first ≡ earliest_year → ⊥)
       → spaces (3 * missing) ++ shown_year from_word earliest_year first ++ shown_year to_word latest_year last ≡ shown_years missing first last
   unfolding shown_years
-  years_said e = rw (e, shown_years)
+  years_said (inl (e, other)) = rw (eq-eqb first earliest_year e, ne_eqb last latest_year other, shown_years)
+  years_said (inr other) = rw (ne_eqb first earliest_year other, shown_years)
 
 -- ---- The last field of an entry
-
-pub tail_least : (dated : Bool) → 4 ≤ size_of (Tail dated)
-tail_least true = omega arith
-tail_least false = omega arith
-
-pub tail_long : (dated : Bool) → dated ≡ true → size_of (Tail dated) ≡ 8
-tail_long dated e = rw e
 
 module _ (dated : Bool) (bytes : List ℕ) (at : ℕ) where
   pub tail_dated : (n first last : ℕ) → dated ≡ true → n ≡ signs_before bytes at 4 → first ≡ number_at bytes (at + 4) → last ≡ number_at bytes (at + 6)
@@ -108,7 +102,7 @@ module _ (dated : Bool) (bytes : List ℕ) (at : ℕ) where
 
 -- ---- The first word
 
-spelled_short : (k : Keyword) → length (spelled k) ≤ 10
+pub spelled_short : (k : Keyword) → length (spelled k) ≤ 10
 spelled_short Dated = omega arith
 spelled_short Classes = omega arith
 spelled_short Variables = omega arith
@@ -117,12 +111,6 @@ spelled_short Entry = omega arith
 spelled_short Context = omega arith
 spelled_short Transition = omega arith
 spelled_short Decision = omega arith
-
-pub keyword_put : {before after : List ℕ} {at r : ℕ} (k j : Keyword) → k ≡ j → Puts before at (spelled j) r after → Puts before at (spelled k) r after × (r ≤ at + 10)
-keyword_put {at = at} k j e p =
-    let short = spelled_short j in
-    let goes = p.goes in
-    (puts_as (ap spelled (sym e)) p, omega arith)
 
 -- ---- The fields of a record
 
@@ -304,27 +292,27 @@ roomed_done : (out bytes : List ℕ) → length bytes ≤ length out → roomed 
 unfolding roomed
 roomed_done out bytes l = rw (le-leb (length bytes) (length out) l, roomed)
 
-roomed_refused : (out bytes : List ℕ) → length out < length bytes → roomed out bytes ≡ refused out (Refused (Room (length bytes)))
+roomed_refused : (out bytes : List ℕ) → length out < length bytes → roomed out bytes ≡ refused out (Err (Refused (Room (length bytes))))
 unfolding roomed
 roomed_refused out bytes l = rw (lt-leb (length bytes) (length out) l, roomed)
 
-pub show_unaccepted : (image out : List ℕ) (r : Refusal) → verdict_of image ≡ NotAccepted r → showing image out ≡ refused out (Refused r)
+pub show_unaccepted : (image out : List ℕ) (r : Refusal) → verdict_of image ≡ Err r → showing image out ≡ refused out (Err (Refused r))
 unfolding showing
 show_unaccepted image out r v = rw (v, showing)
 
-show_accepted : (image out : List ℕ) (s : Sections) (d : Draft) → s ≡ sections_of image → d ≡ head_of s → verdict_of image ≡ Accepted
+show_accepted : (image out : List ℕ) (s : Sections) (d : Draft) → s ≡ sections_of image → d ≡ head_of s → verdict_of image ≡ Ok tt
     → showing image out ≡ roomed out (shown_in image d s)
 unfolding showing shown
 show_accepted image out s d at head v = rw (v, showing, head, at)
 
 -- what the code hands back
-pub ends_refused : (o : Outcome) (out : List ℕ) (r : Refusal) → o ≡ refused out (Refused r) → Ends o (Refused r) out
+pub ends_refused : (o : Outcome) (out : List ℕ) (r : Refusal) → o ≡ refused out (Err (Refused r)) → Ends o (Err (Refused r)) out
 unfolding refused
 ends_refused o out r e = record { answers = sym (ap (λ (x : Outcome). x.answer) e); leaves = sym (ap (λ (x : Outcome). x.output) e) }
 
 -- the bytes are written at the front
 ends_done : (o : Outcome) (out bytes after : List ℕ) → o ≡ done out bytes → length bytes ≤ length out → Wrote out 0 bytes after
-    → Ends o (Done (length bytes)) after
+    → Ends o (Ok (length bytes)) after
 unfolding done
 ends_done o out bytes after e l w =
     let front : sets out 0 bytes ≡ bytes ++ drop (length bytes) out =
@@ -334,7 +322,7 @@ ends_done o out bytes after e l w =
       leaves = w.leaves ∙ front ∙ sym (ap (λ (x : Outcome). x.output) e);
     }
 
-module _ (image out : List ℕ) (s : Sections) (d : Draft) (located : s ≡ sections_of image) (head : d ≡ head_of s) (accepts : verdict_of image ≡ Accepted)
+module _ (image out : List ℕ) (s : Sections) (d : Draft) (located : s ≡ sections_of image) (head : d ≡ head_of s) (accepts : verdict_of image ≡ Ok tt)
     (needed : ℕ) (measured : needed ≡ 0 + length (shown_in image d s)) where
   abbrev bytes : List ℕ
   bytes = shown_in image d s
@@ -342,15 +330,15 @@ module _ (image out : List ℕ) (s : Sections) (d : Draft) (located : s ≡ sect
   is : length bytes ≡ needed
   is = sym (measured ∙ zero-add (length bytes))
 
-  pub show_short : length out < needed → Ends (showing image out) (Refused (Room needed)) out
+  pub show_short : length out < needed → Ends (showing image out) (Err (Refused (Room needed))) out
   show_short l =
       let long = is in
-      subst (λ (n : ℕ). Ends (showing image out) (Refused (Room n)) out) is
+      subst (λ (n : ℕ). Ends (showing image out) (Err (Refused (Room n))) out) is
       (ends_refused (showing image out) out (Room (length bytes)) (show_accepted image out s d located head accepts ∙ roomed_refused out bytes (omega arith)))
 
-  pub show_done : (r : ℕ) (after : List ℕ) → needed ≤ length out → Puts out 0 (shown_in image d s) r after → Ends (showing image out) (Done needed) after
+  pub show_done : (r : ℕ) (after : List ℕ) → needed ≤ length out → Puts out 0 (shown_in image d s) r after → Ends (showing image out) (Ok needed) after
   show_done r after l p =
       let long = is in
       let fits : length bytes ≤ length out = omega arith in
-      subst (λ (n : ℕ). Ends (showing image out) (Done n) after) is
+      subst (λ (n : ℕ). Ends (showing image out) (Ok n) after) is
       (ends_done (showing image out) out bytes after (show_accepted image out s d located head accepts ∙ roomed_done out bytes fits) fits (p.writes (omega arith)))

@@ -1,18 +1,19 @@
 // The readable form of an accepted image. It is measured first, by the functions that write it, so a
 // refused call changes no byte.
 
-ghost use Rattle.std.specs.Prelude.{◌∷◌, [], ◌≡◌, ℕ, ◌+◌, ◌*◌, ◌≤◌, ◌<◌, length};
+ghost use Rattle.std.specs.Prelude.{◌≡◌, ◌+◌, ◌≤◌, ◌<◌};
 ghost use Rattle.form.specs.Showing.{head_of, shown_head, shown_section, shown_in};
 ghost use Rattle.form.specs.Calls.{showing};
 ghost use Rattle.form.specs.Promises.{Ends};
 ghost use Rattle.writing.specs.inside.Puts.{Puts, Sectioned, Showable};
+ghost use Rattle.writing.specs.inside.Penned.{Penned};
 ghost use Rattle.form.specs.inside.Steps.{Modest};
 
-use crate::putting::{put, put_line};
-use form::{Draft, Drawn, Keyword};
+use crate::putting::Pen;
+use form::{Draft, Keyword, Undrawn};
 use framing::{locate, record_part};
 use judge::check;
-use table::{Refusal, Section, Sections, Verdict};
+use table::{Refusal, Section, Sections};
 
 // What the first lines say.
 fn head_of(s: Sections) -> Draft
@@ -32,88 +33,57 @@ fn head_of(s: Sections) -> Draft
 }
 
 // The lines before the records.
-fn put_head(out: &mut [u8], draft: Draft) -> usize
-    requires { Modest draft }
-    ensures { Puts out.old 0 (shown_head draft) result out.new × (result ≤ 2100) }
+fn put_head(pen: &mut Pen<'_>, draft: Draft)
+    requires { (pen.old.at < 1000000) × Modest draft }
+    ensures { Penned pen.old (shown_head draft) pen.new × (pen.new.at ≤ pen.old.at + 2100) }
 {
-    let mut to = 0;
     if draft.dated {
-        to = put_line(out, to, draft, Keyword::Dated, &[]);
+        pen.put_line(draft, Keyword::Dated, &[]);
     }
-    let classes = [(draft.classes % 256) as u8];
-    let variables = [(draft.variables % 256) as u8];
-    to = put_line(out, to, draft, Keyword::Classes, &classes);
-    put_line(out, to, draft, Keyword::Variables, &variables)
+    pen.put_line(draft, Keyword::Classes, &[draft.classes as u8]);
+    pen.put_line(draft, Keyword::Variables, &[draft.variables as u8]);
 }
 
 // An empty line and the lines of a section's records, or nothing where it has none.
-fn put_section(
-    out: &mut [u8],
-    at: usize,
-    draft: Draft,
-    keyword: Keyword,
-    image: &[u8],
-    s: Section,
-) -> usize
-    requires { (at < 100000000) × Modest draft × Sectioned draft keyword image.now s }
-    ensures { Puts out.old at (shown_section draft keyword image.now s) result out.new × (result ≤ at + 1000000) }
+fn put_section(pen: &mut Pen<'_>, draft: Draft, keyword: Keyword, image: &[u8], s: Section)
+    requires { (pen.old.at < 100000000) × Modest draft × Sectioned draft keyword image.now s }
+    ensures { Penned pen.old (shown_section draft keyword image.now s) pen.new × (pen.new.at ≤ pen.old.at + 1000000) }
 {
-    let size = s.size;
-    let records = s.records;
-    if records == 0 {
-        return at;
+    if s.records == 0 {
+        return;
     }
-    let mut to = put(out, at, 10);
-    let mut k = 0;
-    while k < records {
-        to = put_line(out, to, draft, keyword, record_part(image, s, k, 0, size));
-        k += 1;
+    pen.put(b'\n');
+    for k in 0..s.records {
+        pen.put_line(draft, keyword, record_part(image, s, k, 0, s.size));
     }
-    to
 }
 
-// The whole text.
+// The whole text, and how many bytes it has.
 fn put_all(out: &mut [u8], draft: Draft, image: &[u8], s: Sections) -> usize
     requires { Showable draft image.now s }
     ensures { Puts out.old 0 (shown_in image.now draft s) result out.new }
 {
-    let head = put_head(out, draft);
-    let letters = put_section(out, head, draft, Keyword::Letter, image, s.alphabet);
-    let entries = put_section(out, letters, draft, Keyword::Entry, image, s.contractions);
-    let contexts = put_section(out, entries, draft, Keyword::Context, image, s.contexts);
-    let transitions = put_section(
-        out,
-        contexts,
-        draft,
-        Keyword::Transition,
-        image,
-        s.transitions,
-    );
-    put_section(
-        out,
-        transitions,
-        draft,
-        Keyword::Decision,
-        image,
-        s.decisions,
-    )
+    let mut pen = Pen::new(out);
+    put_head(&mut pen, draft);
+    put_section(&mut pen, draft, Keyword::Letter, image, s.alphabet);
+    put_section(&mut pen, draft, Keyword::Entry, image, s.contractions);
+    put_section(&mut pen, draft, Keyword::Context, image, s.contexts);
+    put_section(&mut pen, draft, Keyword::Transition, image, s.transitions);
+    put_section(&mut pen, draft, Keyword::Decision, image, s.decisions);
+    pen.at
 }
 
-// Writes the readable form of an accepted image. An image that isn't accepted is refused as by
-// `check`, and last the room is checked.
-pub fn show(image: &[u8], out: &mut [u8]) -> Drawn
+// Writes the readable form of an accepted image, and answers how many bytes it wrote. An image that
+// isn't accepted is refused as by `check`, and last the room is checked.
+pub fn show(image: &[u8], out: &mut [u8]) -> Result<usize, Undrawn>
     ensures { Ends (showing image.now out.old) result out.new }
 {
-    if let Verdict::Refused(refusal) = check(image) {
-        return Drawn::Refused(refusal);
-    }
+    check(image)?;
     let s = locate(image);
     let draft = head_of(s);
-    let mut unused = [0u8; 1];
-    let needed = put_all(&mut unused, draft, image, s);
+    let needed = put_all(&mut [0; 1], draft, image, s);
     if out.len() < needed {
-        return Drawn::Refused(Refusal::Room(needed));
+        return Err(Undrawn::Refused(Refusal::Room(needed)));
     }
-    put_all(out, draft, image, s);
-    Drawn::Done { written: needed }
+    Ok(put_all(out, draft, image, s))
 }

@@ -3,8 +3,7 @@ use Rattle.layout.proofs.Relied.{call_written}
 use Rattle.brailleout.proofs.translate.Goals as goal
 
 pub slice_bounds-out-end : goal.slice_bounds-out-end
-slice_bounds-out-end c = rw c.written.ensures.is (call_written c.emboss-answer.ensures)
+slice_bounds-out-end c = call_written c.in-Ok.ensures
 
 pub slice_bounds-print_pages-end : goal.slice_bounds-print_pages-end
-slice_bounds-print_pages-end c =
-    sym (length-take-le _ _ (rw c.written.ensures.is (call_written c.emboss-answer.ensures)))
+slice_bounds-print_pages-end c = sym (length-take-le _ _ (call_written c.in-Ok.ensures))

@@ -8,3 +8,8 @@ use Rattle.embosser.specs.Filing.{refused, done, turned_bytes, roomed, judged, f
 unfoldable pub computing : Unit {0}
 unfolding computing_pages characters character_of place_in at_start has_room cells_from cell_fits line_ends page_ends stepped wrong_from wrong_at bytes_as refused done turned_bytes roomed judged filing
 computing = tt
+
+-- the tests of a step
+unfoldable pub stepping_tests : Unit {0}
+unfolding has_room cell_fits line_ends page_ends
+stepping_tests = tt

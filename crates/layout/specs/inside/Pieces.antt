@@ -1,10 +1,9 @@
 -- The answer of laying out, with the count of pieces: the answer of the whole call.
-use Rattle.std.specs.Prelude.{ℕ}
+use Rattle.std.specs.Prelude.{ℕ, Result, Ok, Err}
+use Rattle.table.specs.declared.Refusal.{Refusal}
 use Rattle.pages.specs.declared.Filled.{Filled}
-use Rattle.pages.specs.declared.Filled.TheVariants as Filled'
-use Rattle.layout.specs.declared.Answer.{Answer}
-use Rattle.layout.specs.declared.Answer.TheVariants.{Done, Refused}
+use Rattle.layout.specs.Emboss.{Answer}
 
-abbrev pub with_pieces : ℕ → Filled → Answer
-with_pieces n (Filled'.Done w l g) = Done w n l g
-with_pieces n (Filled'.Refused r) = Refused r
+abbrev pub with_pieces : ℕ → Result Filled Refusal → Answer
+with_pieces n (Ok f) = Ok (record { written = f.written; pieces = n; lines = f.lines; pages = f.pages })
+with_pieces n (Err r) = Err r

@@ -1,13 +1,14 @@
 -- What the functions that write promise each other: moves that go forward, the moved place with its bytes in the output, and a sign with the cells that wait.
-use Rattle.std.specs.Prelude.{ℕ, ◌+◌, ◌-◌, ◌*◌, ◌≤◌, List, ◌≡◌, length, take}
+use Rattle.std.specs.Prelude.{ℕ, ◌+◌, ◌-◌, ◌*◌, ◌≤◌, List, ◌≡◌, length, Result}
 use Rattle.table.specs.Numbers.{entry_signs, most_text}
 use Rattle.table.specs.inside.Wrote.{Wrote}
+use Rattle.table.specs.declared.Refusal.{Refusal}
 use Rattle.pages.specs.Numbers.{most_width}
-use Rattle.pages.specs.Place.{standing, move_bytes}
+use Rattle.pages.specs.Words.{items_of}
+use Rattle.pages.specs.Place.{standing, move_bytes, volume}
 use Rattle.pages.specs.Fill.{Outcome}
 use Rattle.pages.specs.inside.Gather.{Modest, stepped, waiting, step_bytes}
 use Rattle.pages.specs.declared.Filled.{Filled}
-use Rattle.pages.specs.declared.Gathering.{Gathering}
 use Rattle.pages.specs.declared.Place.{Place}
 use Rattle.pages.specs.declared.Sheet.{Sheet}
 
@@ -28,11 +29,11 @@ pub record Room (m : ℕ) (out : List ℕ) (p : Place) (bytes : List ℕ) : Type
   pub modest : Modest m p
   pub room : p.written + length bytes ≤ length out
 
--- one sign: the moved place with the cells that wait, the bytes written, and the cells that wait in front of the buffer
-pub record Signed (sheet : Sheet) (before : List ℕ) (p : Place) (word : List ℕ) (n g : ℕ) (after word' : List ℕ) (answer : Gathering) : Type 0 where
-  pub place : answer ≡ stepped sheet p n g
-  pub wrote : Wrote before p.written (step_bytes sheet p (take n word) g) after
-  pub waits : take answer.cells word' ≡ waiting sheet (take n word) g
+-- one sign: the moved place, the bytes written, and the cells that wait then, where `cells` waited before it
+pub record Signed (sheet : Sheet) (before : List ℕ) (p : Place) (cells : List ℕ) (g : ℕ) (after cells' : List ℕ) (answer : Place) : Type 0 where
+  pub place : answer ≡ (stepped sheet p (length cells) g).place
+  pub wrote : Wrote before p.written (step_bytes sheet p cells g) after
+  pub waits : cells' ≡ waiting sheet cells g
 
 -- signs that can be counted, and a width that can be gathered
 pub record Fillable (sheet : Sheet) (signs : List ℕ) : Type 0 where
@@ -40,7 +41,12 @@ pub record Fillable (sheet : Sheet) (signs : List ℕ) : Type 0 where
   pub wide : 2 ≤ sheet.width
   pub narrow : sheet.width ≤ most_width
 
+-- whose pages have room in the output
+pub record Writable (sheet : Sheet) (signs out : List ℕ) : Type 0 where
+  pub fillable : Fillable sheet signs
+  pub room : length (volume sheet (items_of sheet.width signs)) ≤ length out
+
 -- a call that ends with this answer and this output has this outcome
-pub record Ends (outcome : Outcome) (answer : Filled) (after : List ℕ) : Type 0 where
+pub record Ends (outcome : Outcome) (answer : Result Filled Refusal) (after : List ℕ) : Type 0 where
   pub answers : answer ≡ outcome.answer
   pub leaves : after ≡ outcome.output

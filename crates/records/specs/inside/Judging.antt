@@ -1,20 +1,14 @@
--- What the code that judges records speaks of: the letters by their symbols, the kinds of bytes, the sections by their number in image order. No heading of
+-- What the code that judges records speaks of: the letters by their symbols, the fault of a wrong record. No heading of
 -- document 01.
-use Rattle.std.specs.Prelude.{ℕ, zero, suc, ◌+◌, ◌<◌, Bool, cond, not, List, ◌≡◌, ltb, eqb, length, get_or}
+use Rattle.std.specs.Prelude.{ℕ, zero, suc, ◌+◌, ◌<◌, Bool, cond, not, List, ◌≡◌, ltb, eqb, length, get_or, Ok, Err}
 use Rattle.std.proofs.Math.Option.{Option, none, some}
-use Rattle.table.specs.Numbers.{blank_cell, symbol_byte, signs_byte, padding, least_class}
-use Rattle.table.specs.Search.{within, first}
+use Rattle.table.specs.Numbers.{blank_cell, symbol_byte, signs_byte, padding}
+use Rattle.table.specs.Search.{first}
 use Rattle.table.specs.Sections.{record_byte}
-use Rattle.table.specs.Records.{right_transition, right_condition, right_decision, wrong_byte, rule_of, name_at, Wrong}
-use Rattle.table.specs.Refusals.{sections_before}
+use Rattle.table.specs.Records.{Wrong}
 use Rattle.table.specs.declared.Section.{Section}
-use Rattle.table.specs.declared.Sections.{Sections}
-use Rattle.records.specs.declared.rules.Kind.{Kind}
-use Rattle.records.specs.declared.rules.Kind.TheVariants.{Class, Transition, Decision, Condition}
-use Rattle.records.specs.declared.rules.WrongIn.{WrongIn}
-use Rattle.records.specs.declared.rules.WrongIn.TheVariants.{AtByte, NoneWrong}
-use Rattle.records.specs.declared.rules.WrongRecord.{WrongRecord}
-use Rattle.records.specs.declared.rules.WrongRecord.TheVariants.{At, AllRight}
+use Rattle.records.specs.Judged.{Judged}
+use Rattle.records.specs.declared.Fault.TheVariants.{Wrong as WrongAt}
 
 -- ---- The letters by their symbols
 
@@ -45,25 +39,8 @@ abbrev pub sign_before : List ℕ → Section → ℕ → ℕ → ℕ
 sign_before image contractions k zero = blank_cell
 sign_before image contractions k (suc i) = record_byte image contractions k (signs_byte + i)
 
--- ---- Bytes of one kind
+-- ---- The fault of a wrong record
 
-abbrev pub right_byte : Kind → ℕ → Bool
-right_byte (Class classes) b = within least_class classes b
-right_byte Transition b = right_transition b
-right_byte Decision b = right_decision b
-right_byte Condition b = right_condition b
-
--- ---- Sections by their number in image order
-
--- the first wrong byte of record `k` of section `i`
-abbrev pub wrong_byte_of : List ℕ → Sections → ℕ → ℕ → Option ℕ
-wrong_byte_of image s i k = wrong_byte (rule_of image s (name_at i) k)
-
--- the first wrong record of the section, and its first wrong byte
-abbrev pub found_in : Option Wrong → WrongIn
-found_in none = NoneWrong
-found_in (some w) = AtByte w.index w.byte
-
-abbrev pub found_wrong : Option Wrong → WrongRecord
-found_wrong none = AllRight
-found_wrong (some w) = At (sections_before w.section) w.index w.byte
+abbrev pub fault_of : Option Wrong → Judged
+fault_of none = Ok tt
+fault_of (some w) = Err (WrongAt w.section w.index w.byte)

@@ -1,9 +1,7 @@
 -- What a search of the code answers, by what the definition's search finds: the number of a record, or a place of a text. No heading of document 01.
-use Rattle.std.specs.Prelude.{ℕ}
-use Rattle.std.proofs.Math.Option.{Option, none, some}
-use Rattle.table.specs.declared.Found.{Found}
-use Rattle.table.specs.declared.Found.TheVariants.{At, Nothing}
+use Rattle.std.specs.Prelude.{ℕ, Option, None, Some}
+use Rattle.std.proofs.Math.Option as maybe
 
-abbrev pub found : Option ℕ → Found
-found none = Nothing
-found (some k) = At k
+abbrev pub found : maybe.Option ℕ → Option ℕ
+found maybe.none = None
+found (maybe.some k) = Some k

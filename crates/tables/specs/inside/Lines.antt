@@ -1,12 +1,10 @@
 -- What the walk over the lines of a text goes by: where a line ends, and what one line makes of the draft and of the output. No heading of docs/TABLES.md.
-use Rattle.std.specs.Prelude.{ℕ, suc, ◌+◌, ◌-◌, true, false, List, [], ◌∷◌, ◌≡◌, eqb, length, get_or, drop}
+use Rattle.std.specs.Prelude.{ℕ, suc, ◌+◌, ◌-◌, true, false, List, [], ◌∷◌, ◌≡◌, Result, Ok, Err, eqb, length, get_or, drop}
 use Rattle.form.specs.Numbers.{line_feed}
 use Rattle.form.specs.Reading.{Line, nothing, says, unlike, with_line, image_bytes, reading}
 use Rattle.tables.specs.inside.Steps.{walked_to}
-use Rattle.tables.specs.declared.Walked.TheVariants.{To}
 use Rattle.form.specs.declared.Draft.{Draft}
-use Rattle.tables.specs.declared.Taken.{Taken}
-use Rattle.tables.specs.declared.Taken.TheVariants.{On, Wrong}
+use Rattle.form.specs.declared.Unlike.{Unlike}
 
 -- the characters of the first line
 unfoldable pub first_line : List ℕ → ℕ
@@ -24,11 +22,11 @@ line_bytes (says k bytes) = image_bytes k bytes
 line_bytes (unlike e rest) = []
 
 -- the draft with it, and the place after its bytes
-abbrev pub taken : Draft → List ℕ → ℕ → Line → Taken
-taken d line to nothing = On d to
-taken d line to (says k bytes) = On (with_line d k (get_or bytes 0 0)) (to + length (image_bytes k bytes))
-taken d line to (unlike e rest) = Wrong e (length line - length rest)
+abbrev pub taken : Draft → List ℕ → ℕ → Line → Result (Draft × ℕ) Unlike
+taken d line to nothing = Ok (d, to)
+taken d line to (says k bytes) = Ok (with_line d k (get_or bytes 0 0), to + length (image_bytes k bytes))
+taken d line to (unlike e rest) = Err (record { expected = e; at = length line - length rest })
 
 -- the text is of the form, and comes to this draft
 pub record Drafted (text : List ℕ) (d : Draft) : Type 0 where
-  pub comes : walked_to (reading text) ≡ To d
+  pub comes : walked_to (reading text) ≡ Ok d

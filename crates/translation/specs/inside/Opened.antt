@@ -1,5 +1,5 @@
--- What the functions inside this crate take for granted of an image and its sections: all records lie within the image, and they are right. An accepted
--- image gives it (proofs/Accepted.antt), so no public promise asks for it.
+-- What the functions inside this crate take for granted of a translator's image and its sections: all records lie within the image, and they are right. An
+-- accepted image gives it (proofs/Accepted.antt), so no public promise asks for it.
 use Rattle.std.specs.Prelude.{ℕ, List}
 use Rattle.table.specs.Laid.{SectionsLaid}
 use Rattle.table.specs.Refusals.{RecordsRight}

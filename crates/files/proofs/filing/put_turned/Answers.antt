@@ -1,12 +1,11 @@
--- `files::filing::put_turned` meets its contract. The loop's invariant: the bytes passed are turned and stored, for the kind whose table it is.
-use borrow.Author.Rules.{rules}
-use Prim.Native.Nat.{ℕ, ◌+◌, ◌≤◌, ◌<◌}
+-- `files::filing::put_turned` meets its contract. The loop's invariant: the bytes passed are turned and stored.
 use mathlib.Core.List.{List, ◌++◌}
-use mathlib.Core.Path.{◌≡◌, refl, sym, ◌∙◌, ap}
+use mathlib.Core.Path.{◌≡◌, sym, ◌∙◌, ap}
 use native.Mathlib.Nat.{zero-add}
 use native.Mathlib.Omega.{arith}
-use lib.ListN.{length, get_or, set, take, drop, length-set}
+use lib.ListN.{length, get_or, set, take, drop}
 use lib.Seq.{sets, sets-eq, take_all}
+use Prim.Native.Nat.{ℕ, ◌+◌, ◌≤◌, ◌<◌}
 use Rattle.table.proofs.Wrote.{run_more}
 use Rattle.embosser.specs.Chart.{turned}
 use Rattle.embosser.specs.Filing.{turned_bytes}
@@ -30,32 +29,12 @@ module _ (kind : Kind) (bytes before : List ℕ) {after : List ℕ} (i : ℕ) wh
       ∙ sets-eq (turned_bytes kind bytes) before 0 (omega arith)
       ∙ ap (λ (n : ℕ). turned_bytes kind bytes ++ drop n before) (zero-add _ ∙ size)
 
-pub loop-i-init : goal.loop-i-init
-loop-i-init c = (omega arith, refl, λ kind _. refl)
-
-pub overflow_cast-out : goal.overflow_cast-out
-overflow_cast-out c = omega (arith, c.shared_slice_known-in-loop-i-1.given c.loop-i.i)
-
-pub bounds-table-bytes : goal.bounds-table-bytes
-bounds-table-bytes c = omega (arith, c.shared_slice_known-in-loop-i-1.given c.loop-i.i)
-
 pub loop-i-preserved : goal.loop-i-preserved
 loop-i-preserved c =
     let a = c.args in
-    let l = c.loop-i in
-    let byte = get_or a.bytes.now l.i 0 in
-    let small : byte < 256 = omega (arith, c.shared_slice_known-in-loop-i-1.given l.i) in
-    let there : l.i < length a.bytes.now = omega arith in (
-      search rules,
-      simp length-set l.invariant.1,
-      λ kind holds. put_more kind a.bytes.now a.out.now l.i there (l.invariant.2 kind holds) (holds.values byte small),
-    )
-
-pub shape_of-out : goal.shape_of-out
-shape_of-out c = c.loop-i.invariant.1
+    let turned_to = c.turned_by-table.ensures.values c.from.result (omega arith) ∙ ap (turned a.kind) c.from.ensures in
+    put_more a.kind a.bytes.now a.out.now c.loop-i.i (omega arith) c.loop-i.invariant turned_to
 
 pub returns : goal.returns
 returns c =
-    let a = c.args in
-    put_all a.kind a.bytes.now a.out.now c.loop-i.i (omega arith) (omega arith)
-    (c.loop-i.invariant.2 a.kind c.turned_by-table.ensures)
+    let a = c.args in put_all a.kind a.bytes.now a.out.now c.loop-i.i (omega arith) (omega arith) c.loop-i.invariant

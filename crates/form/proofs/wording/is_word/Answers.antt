@@ -1,33 +1,14 @@
--- `form::wording::is_word` meets its contract. The loop's invariant: the word's rest is the next word from here on just where the word is from `at` on.
-use borrow.Author.Rules.{rules}
-use mathlib.Core.Path.{refl, sym, ◌∙◌}
-use native.Mathlib.Omega.{arith}
-use Rattle.form.proofs.Words.{word_over, word_short, word_more, word_other}
+-- `form::wording::is_word` meets its contract: the word is there just where the rest begins with it and then ends.
+use mathlib.Core.Path.{sym, ◌∙◌}
+use Rattle.form.proofs.Words.{word_begins, word_other}
 use Rattle.form.proofs.wording.is_word.Goals as goal
 
-pub loop-j-init : goal.loop-j-init
-loop-j-init c = (search rules, refl)
-
-pub returns-then-i-line : goal.returns-then-i-line
-returns-then-i-line c =
+pub returns-then-starts_with : goal.returns-then-starts_with
+returns-then-starts_with c =
     let a = c.args in
-    let l = c.loop-j in
-    sym (word_short a.word.now a.line.now l.j l.i (omega arith) (omega arith)) ∙ l.invariant.1
+    c.ends_word.ensures ∙ sym (word_begins a.word.now a.line.now a.at c.min-at.result c.min-at.ensures (sym c.starts_with.ensures.value ∙ c.if-starts_with.true))
 
-pub returns-then-word-j : goal.returns-then-word-j
-returns-then-word-j c =
+pub returns-else-starts_with : goal.returns-else-starts_with
+returns-else-starts_with c =
     let a = c.args in
-    let l = c.loop-j in
-    sym (word_other a.word.now a.line.now l.j l.i (omega arith) (omega arith) c.if-word-j.true) ∙ l.invariant.1
-
-pub loop-j-preserved : goal.loop-j-preserved
-loop-j-preserved c =
-    let a = c.args in
-    let l = c.loop-j in
-    (omega arith, sym (word_more a.word.now a.line.now l.j l.i (omega arith) (omega arith) c.if-word-j.false) ∙ l.invariant.1)
-
-pub returns : goal.returns
-returns c =
-    let a = c.args in
-    let l = c.loop-j in
-    c.ends_word.ensures ∙ sym (word_over a.word.now a.line.now l.j l.i (omega arith)) ∙ l.invariant.1
+    c.if-starts_with.false ∙ sym (word_other a.word.now a.line.now a.at c.min-at.result c.min-at.ensures (sym c.starts_with.ensures.value ∙ c.if-starts_with.false))

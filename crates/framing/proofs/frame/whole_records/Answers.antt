@@ -1,17 +1,14 @@
--- `framing::frame::whole_records` meets its contract: its tests are the definition's, and the product of size and number fits.
-use borrow.Author.Rules.{rules}
-use mathlib.Core.Path.{refl}
-use native.Mathlib.Omega.{arith}
+-- `framing::frame::whole_records` meets its contract: its tests are the definition's.
+use Rattle.std.proofs.Common.{arith}
+use Rattle.std.proofs.lemmas.Grind.{common_steps}
+use Rattle.std.proofs.lemmas.Bool.Decides.{nat_tests}
 use Rattle.table.specs.Sections.{whole_records}
-use Rattle.table.proofs.Product.{product_fits}
 use Rattle.framing.proofs.frame.whole_records.Goals as goal
 
-pub overflow_mul-result : goal.overflow_mul-result
-overflow_mul-result c =
-    let a = c.args in
-    let h = product_fits a.s.size a.s.records (search rules) (search rules) in
-    record { fits = omega arith }
-
-pub returns : goal.returns
+pub returns-then-least-s : goal.returns-then-least-s
 unfolding whole_records
-returns c = refl
+returns-then-least-s c = grind (arith, common_steps, nat_tests)
+
+pub returns-else-least-s : goal.returns-else-least-s
+unfolding whole_records
+returns-else-least-s c = grind (arith, common_steps, nat_tests)

@@ -1,13 +1,12 @@
--- `ink::looking::is_blank` meets its contract. The loop's invariant: the line is blank from here on where the whole is.
-use Prim.Native.Nat.{◌-◌}
+-- `ink::looking::is_blank` meets its contract. The loop's invariant: what is left of the text is blank where the whole is.
 use mathlib.Core.Path.{◌≡◌}
-use lib.ListN.{length, drop}
+use lib.ListN.{length}
 use Rattle.inkprint.specs.Characters.{characters_of}
 use Rattle.inkprint.specs.Marks.{is_blank}
 use Rattle.ink.proofs.looking.is_blank.Given as goal
 
-abbrev pub invariant-loop-i : goal.invariant-loop-i
-invariant-loop-i l = is_blank (characters_of (drop l.i l.text)) ≡ is_blank (characters_of (drop l.at l.text))
+abbrev pub invariant-loop-c : goal.invariant-loop-c
+invariant-loop-c l = is_blank (characters_of l.left) ≡ is_blank (characters_of l.text)
 
-abbrev pub decreases-loop-i : goal.decreases-loop-i
-decreases-loop-i l = length l.text - l.i
+abbrev pub decreases-loop-c : goal.decreases-loop-c
+decreases-loop-c l = length l.left

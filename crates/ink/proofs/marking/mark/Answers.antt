@@ -2,5 +2,5 @@
 use Rattle.inkprint.proofs.Calls.{inks_long}
 use Rattle.ink.proofs.marking.mark.Goals as goal
 
-pub returns-then-text-gt1073741824 : goal.returns-then-text-gt1073741824
-returns-then-text-gt1073741824 c = inks_long _ _ c.if-text-gt1073741824.true
+pub returns-then-text-gt-LONGEST : goal.returns-then-text-gt-LONGEST
+returns-then-text-gt-LONGEST c = inks_long _ _ c.if-text-gt-LONGEST.true

@@ -1,28 +1,12 @@
 -- `ink::marking::mark_roomy` meets its contract: where each character has a mark, the marked text has at most four bytes for each of the text, and so there is room.
-use mathlib.Core.Path.{sym, ◌∙◌}
-use native.Mathlib.Omega.{arith}
-use Rattle.inkprint.specs.Marks.{marking}
-use Rattle.inkprint.proofs.Walk.{walked_to_lem, judged_wrong, fine_never_wrong, four_each}
-use Rattle.inkprint.proofs.Calls.{inks_unmarked, inks_done}
+use Rattle.std.proofs.lemmas.Result.{err_from_is_err_and}
+use Rattle.inkprint.proofs.Calls.{inks_judged, inks_judged_fine}
 use Rattle.ink.proofs.marking.mark_roomy.Goals as goal
 
-pub returns-in-Wrong : goal.returns-in-Wrong
-returns-in-Wrong c =
-    let begin = c in
-    inks_unmarked _ _ _ begin.requires.0 (judged_wrong _ (sym c.in-Wrong.is ∙ c.judge.ensures))
+pub returns-in_err-judge : goal.returns-in_err-judge
+returns-in_err-judge c =
+    let p = err_from_is_err_and c.from_residual.result c.from_residual.ensures.1 in
+    rw (p.1, p.2) (inks_judged _ c.requires.long c.in_err-judge.ensures)
 
-pub returns-in-To : goal.returns-in-To
-returns-in-To c =
-    let begin = c in
-    let walked = c.walk.ensures in
-    let comes = walked_to_lem _ (sym c.in-To.is ∙ walked.0) in
-    let most = four_each _ _ comes.is in
-    let long = comes.long in
-    let room = begin.requires.1 in
-    inks_done _ _ _ begin.requires.0 comes.is comes.long (omega arith) walked.1
-
-pub returns-in-Wrong-walk : goal.returns-in-Wrong-walk
-returns-in-Wrong-walk c =
-    absurd
-    (fine_never_wrong (marking c.args.text.now) (sym c.in_default.is ∙ c.judge.ensures)
-    (sym c.in-Wrong-walk.is ∙ c.walk.ensures.0))
+pub returns : goal.returns
+returns c = inks_judged_fine _ c.requires.long c.walk.ensures.comes c.walk.ensures.writes c.in_ok-judge.ensures c.requires.room

@@ -1,40 +1,20 @@
--- `ink::marking::source` meets its contract. The loop's invariant: the byte's source is that of byte `left` of what is marked from `at` on. The measure is what is
--- left of the text.
-use mathlib.Core.Path.{sym, ◌∙◌}
-use native.Mathlib.Omega.{arith}
+-- `ink::marking::source` meets its contract: it stops at the character whose mark has the byte.
+use mathlib.Core.Path.{sym}
 use Rattle.inkprint.proofs.Walk.{source_starts, source_ends, source_found, source_more}
 use Rattle.ink.proofs.marking.source.Goals as goal
+use Rattle.ink.proofs.marking.source.Goals.{in-Some+then-ahead-stepped, in_default}
 
-pub loop-at-init : goal.loop-at-init
-loop-at-init c = (omega arith, source_starts _ _ c.start-s.ensures)
+pub loop-c-init : goal.loop-c-init
+loop-c-init c = source_starts _ _
 
-pub returns-then-left-count : goal.returns-then-left-count
-returns-then-left-count c =
-    let l = c.loop-at in
-    record {
-      is =
-          sym
-          (l.invariant.1
-          ∙ source_found _ l.s l.at l.left c.loop-at-test.true c.next-c.ensures.0 c.glyph.ensures
-          c.step_of-stepped.ensures c.if-left-count.true);
-    }
-
-pub loop-at-smaller : goal.loop-at-smaller
-loop-at-smaller c =
-    let here = c.next-c.ensures in
-    omega arith
-
-pub loop-at-preserved : goal.loop-at-preserved
-loop-at-preserved c =
-    let l = c.loop-at in
-    let next = c.next-c in (
-      next.ensures.3,
-      l.invariant.1
-          ∙ source_more _ l.s l.at l.left c.loop-at-test.true next.ensures.0 c.glyph.ensures
-          c.step_of-stepped.ensures c.if-left-count.false,
-    )
+pub loop-c-preserved : goal.loop-c-preserved
+loop-c-preserved c = source_more c.in-Some.ensures c.glyph.ensures c.step_of-stepped.ensures.is c.loop-c.invariant c.if-ahead-stepped.false
 
 pub returns : goal.returns
-returns c =
-    let l = c.loop-at in
-    record { is = sym (l.invariant.1 ∙ source_ends _ l.s l.at l.left c.loop-at-test.false) }
+returns c = record {
+  is =
+      elim c.match-next.branch [
+        | in-Some+then-ahead-stepped w ↦ sym (source_found w.in-Some.ensures w.glyph.ensures w.step_of-stepped.ensures.is c.loop-c.invariant w.if-ahead-stepped.true)
+        | in_default w ↦ sym (source_ends w.in_default.ensures c.loop-c.invariant)
+      ];
+}

@@ -1,12 +1,13 @@
--- `judge::groups::agreement_of` meets its contract. The invariant: the agreement of the two strings is `i` and the agreement of what follows in both.
-use Prim.Native.Nat.{◌+◌, ◌-◌}
-use mathlib.Core.Path.{◌≡◌}
-use lib.ListN.{length, drop}
+-- `judge::groups::agreement_of` meets its contract. The invariant: the agreement of the two strings is what they share so far and the agreement of what
+-- follows in both; what they share has been passed in the first.
+use Rattle.std.proofs.Common.{◌+◌, ◌≡◌, length}
+use Rattle.std.specs.Iterator.Adapters.{zip_first, zip_second}
+use Rattle.std.specs.Slice.Iter.{iter_rest}
 use Rattle.table.specs.Grouping.{agreement}
 use Rattle.judge.proofs.groups.agreement_of.Given as goal
 
-abbrev pub invariant-loop-i : goal.invariant-loop-i
-invariant-loop-i l = agreement l.a l.b ≡ l.i + agreement (drop l.i l.a) (drop l.i l.b)
-
-abbrev pub decreases-loop-i : goal.decreases-loop-i
-decreases-loop-i l = length l.a - l.i
+abbrev pub invariant-loop-x : goal.invariant-loop-x
+invariant-loop-x l = record {
+  passed : l.shared + length (iter_rest (zip_first l.x-iterator)) ≡ length l.a;
+  agreed : agreement l.a l.b ≡ l.shared + agreement (iter_rest (zip_first l.x-iterator)) (iter_rest (zip_second l.x-iterator));
+}

@@ -1,7 +1,5 @@
 -- `judge::groups::first_break` meets its contract. The invariant: no record before `r` breaks the grouping.
-use mathlib.Core.Path.{sym, ◌∙◌, ap}
-use native.Mathlib.Omega.{arith}
-use borrow.Author.Count.{below_more}
+use Rattle.std.proofs.Common.{◌∙◌, sym, ap, arith, below_more}
 use Rattle.table.specs.Table.{table_in}
 use Rattle.table.specs.Grouping.{breaks_at, first_break}
 use Rattle.table.specs.Verdict.{strings}
@@ -11,30 +9,26 @@ use Rattle.table.proofs.GroupLaws.{keeps_by, strings_length}
 use Rattle.judge.proofs.groups.first_break.Goals as goal
 
 pub loop-r-init : goal.loop-r-init
-loop-r-init c = (omega arith, λ k l. keeps_by _ k (λ q u. absurd (omega arith)))
+loop-r-init c = λ k l. keeps_by _ k (λ q u. absurd (omega arith))
 
 pub breaks_at-requires : goal.breaks_at-requires
-breaks_at-requires c = (omega arith, omega arith, c.loop-r.invariant.1)
+breaks_at-requires c = (omega arith, omega arith, c.loop-r.invariant)
 
 pub returns-then-breaks_at : goal.returns-then-breaks_at
 unfolding first_break
 returns-then-breaks_at c =
     let a = c.args in
-    let l = c.loop-r in
     let n = strings_length a.image.now a.s in
-    let breaks = sym c.breaks_at.ensures ∙ c.if-breaks_at.true in
     sym
     (ap found
-    (found_first (breaks_at (strings (table_in a.image.now a.s))) _ l.r l.invariant.1 (omega arith) breaks))
+    (found_first (breaks_at (strings (table_in a.image.now a.s))) _ c.loop-r.r c.loop-r.invariant (omega arith) (sym c.breaks_at.ensures ∙ c.if-breaks_at.true)))
 
 pub loop-r-preserved : goal.loop-r-preserved
-loop-r-preserved c =
-    let keeps = sym c.breaks_at.ensures ∙ c.if-breaks_at.false in
-    (omega arith, below_more _ _ c.loop-r.invariant.1 keeps)
+loop-r-preserved c = below_more _ _ c.loop-r.invariant (sym c.breaks_at.ensures ∙ c.if-breaks_at.false)
 
 pub returns : goal.returns
 unfolding first_break
 returns c =
     let a = c.args in
     let n = strings_length a.image.now a.s in
-    sym (ap found (found_none (breaks_at (strings (table_in a.image.now a.s))) _ c.loop-r.r c.loop-r.invariant.1 (omega arith)))
+    sym (ap found (found_none (breaks_at (strings (table_in a.image.now a.s))) _ c.loop-r.r c.loop-r.invariant (omega arith)))

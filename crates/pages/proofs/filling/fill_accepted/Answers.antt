@@ -20,21 +20,31 @@ ends out bytes h =
     let k : 0 + length bytes ≡ length bytes = omega arith in
     sets-eq bytes out 0 (omega arith) ∙ ap (λ (n : ℕ). bytes ++ drop n out) k
 
-pub write-requires : goal.write-requires
-write-requires c =
-    let a = c.args in
-    let pre = c.requires in
-    let items : List Item = items_of a.sheet.width a.signs.now in
-    let n = ap (λ (p : Place). p.written) c.measure-end.ensures ∙ written_volume a.sheet items in
-    (pre.most, pre.wide, pre.narrow, omega arith)
-
-pub returns-then-needed-out : goal.returns-then-needed-out
-unfolding bytes_of end_of roomed done
-returns-then-needed-out c =
+pub returns-then-out-written : goal.returns-then-out-written
+unfolding bytes_of roomed refused
+returns-then-out-written c =
     let a = c.args in
     let items : List Item = items_of a.sheet.width a.signs.now in
     let bytes : List ℕ = volume a.sheet items in
-    let e = c.measure-end.ensures in
+    let n = ap (λ (p : Place). p.written) c.measure-written.ensures ∙ written_volume a.sheet items in
+    let short : length a.out.now < length bytes = omega arith in
+    let b = lt-leb (length bytes) (length a.out.now) short in
+    record { answers = rw (b, roomed, n); leaves = rw (b, roomed) }
+
+pub write-requires : goal.write-requires
+write-requires c =
+    let a = c.args in
+    let items : List Item = items_of a.sheet.width a.signs.now in
+    let n = ap (λ (p : Place). p.written) c.measure-written.ensures ∙ written_volume a.sheet items in
+    record { fillable = c.requires; room = omega arith }
+
+pub returns : goal.returns
+unfolding bytes_of end_of roomed done
+returns c =
+    let a = c.args in
+    let items : List Item = items_of a.sheet.width a.signs.now in
+    let bytes : List ℕ = volume a.sheet items in
+    let e = c.measure-written.ensures in
     let n = ap (λ (p : Place). p.written) e ∙ written_volume a.sheet items in
     let l = ap (λ (p : Place). p.lines) e in
     let g = ap (λ (p : Place). p.pages) e in
@@ -44,14 +54,3 @@ returns-then-needed-out c =
       answers = rw (b, roomed, n, l, g);
       leaves = rw (b, roomed) (c.write.ensures.leaves ∙ ends a.out.now bytes room);
     }
-
-pub returns : goal.returns
-unfolding bytes_of roomed refused
-returns c =
-    let a = c.args in
-    let items : List Item = items_of a.sheet.width a.signs.now in
-    let bytes : List ℕ = volume a.sheet items in
-    let n = ap (λ (p : Place). p.written) c.measure-end.ensures ∙ written_volume a.sheet items in
-    let short : length a.out.now < length bytes = omega arith in
-    let b = lt-leb (length bytes) (length a.out.now) short in
-    record { answers = rw (b, roomed, n); leaves = rw (b, roomed) }

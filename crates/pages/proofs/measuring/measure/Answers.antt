@@ -14,71 +14,58 @@ use Rattle.pages.proofs.Moves as Moves
 use Rattle.pages.proofs.Gather as Gather
 use Rattle.pages.proofs.measuring.measure.Goals as goal
 
-pub loop-i-init : goal.loop-i-init
+pub loop-sign-init : goal.loop-sign-init
 unfolding after_rest volume_end items_of words_of
-loop-i-init c =
-    rw c.first-p.ensures (
-      omega arith,
+loop-sign-init c =
+    rw c.first.ensures (
       omega arith,
       record { column_most = omega arith; line_most = omega arith; written_most = omega arith; lines_most = omega arith; pages_most = omega arith },
       ([], refl, refl),
     )
 
-pub step-s-requires : goal.step-s-requires
-step-s-requires c =
-    let v = c.loop-i.invariant in
-    let pre = c.requires in
-    let i : 70 * c.loop-i.i ≤ 2 ^ 31 = omega arith in
-    (Moves.modest_more i v.2, omega arith)
-
-pub loop-i-preserved : goal.loop-i-preserved
-loop-i-preserved c =
+pub loop-sign-preserved : goal.loop-sign-preserved
+loop-sign-preserved c =
     let a = c.args in
     let pre = c.requires in
-    let l = c.loop-i in
+    let l = c.loop-sign in
     let v = l.invariant in
-    let cells : List ℕ = v.3.0 in
-    let size : length cells ≡ l.n = v.3.1 in
-    let there : l.i < length a.signs.now = omega arith in
-    let g : ℕ = get_or a.signs.now l.i 0 in
+    let cells : List ℕ = v.2.0 in
+    let size : length cells ≡ l.so_far.cells = v.2.1 in
+    let there : l.sign-index < length a.signs.now = omega arith in
+    let g : ℕ = get_or a.signs.now l.sign-index 0 in
     let most : length cells ≤ a.sheet.width = omega arith in
-    let e : c.step-s.result ≡ stepped a.sheet l.p (length cells) g = c.step-s.ensures ∙ ap (λ (n : ℕ). stepped a.sheet l.p n g) (sym size) in
-    let w = Gather.waiting_length a.sheet pre.1 l.p cells g in
-    let b = Gather.waiting_most a.sheet pre.1 cells g most in
+    let p : Place = l.so_far.place in
+    let e : c.step-so_far.result ≡ stepped a.sheet p (length cells) g = c.step-so_far.ensures ∙ ap (λ (n : ℕ). stepped a.sheet p n g) (sym size) in
+    let w = Gather.waiting_length a.sheet pre.wide p cells g in
+    let b = Gather.waiting_most a.sheet pre.wide cells g most in
     rw e (
-      omega arith,
       rw (← w) b,
-      Moves.modest_more (omega arith) (Gather.modest_step a.sheet (70 * l.i) (length cells) g l.p (omega arith) v.2),
-      (waiting a.sheet cells g, w, sym (Gather.turn_after a.sheet pre.1 a.signs.now l.i there l.p cells most) ∙ v.3.2),
+      Moves.modest_more (omega arith) (Gather.modest_step a.sheet (70 * l.sign-index) (length cells) g p (omega arith) v.1),
+      (waiting a.sheet cells g, w, sym (Gather.turn_after a.sheet pre.wide a.signs.now l.sign-index there p cells most) ∙ v.2.2),
     )
 
-pub flush-requires : goal.flush-requires
-flush-requires c =
-    let v = c.loop-i.invariant in
-    let pre = c.requires in
-    let i : 70 * c.loop-i.i ≤ 2 ^ 32 = omega arith in
-    (Moves.modest_more i v.2, omega arith)
-
-pub format-requires : goal.format-requires
-format-requires c =
+pub page_end-requires : goal.page_end-requires
+page_end-requires c =
     let a = c.args in
-    let l = c.loop-i in
+    let l = c.loop-sign in
     let v = l.invariant in
     let pre = c.requires in
-    let i : 70 * l.i + 4 + l.n ≤ 2 ^ 32 = omega arith in
-    rw c.flush.ensures (Moves.modest_more i (Gather.modest_flush a.sheet (70 * l.i) l.n l.p v.2))
+    let i : 70 * l.sign-index + 4 + l.so_far.cells ≤ 2 ^ 32 = omega arith in
+    rw c.flushed.ensures (Moves.modest_more i (Gather.modest_flush a.sheet (70 * l.sign-index) l.so_far.cells l.so_far.place v.1))
 
 pub returns : goal.returns
 returns c =
     let a = c.args in
-    let l = c.loop-i in
+    let l = c.loop-sign in
     let v = l.invariant in
     let pre = c.requires in
-    let cells : List ℕ = v.3.0 in
-    let size : length cells ≡ l.n = v.3.1 in
-    let all : drop l.i a.signs.now ≡ [] = drop_of_length-le a.signs.now {i = l.i} (omega arith) in
-    c.format.ensures
-    ∙ ap (λ (q : Place). after_format a.sheet q sign_page_end) (c.flush.ensures ∙ ap (λ (n : ℕ). after_flush a.sheet l.p n) (sym size))
-    ∙ sym (Gather.end_after a.sheet pre.1 l.p cells (omega arith))
-    ∙ ap (λ (r : List ℕ). after_rest a.sheet l.p cells r) (sym all)
-    ∙ v.3.2
+    let p : Place = l.so_far.place in
+    let cells : List ℕ = v.2.0 in
+    let size : length cells ≡ l.so_far.cells = v.2.1 in
+    let all : drop l.sign-index a.signs.now ≡ [] = drop_of_length-le a.signs.now {i = l.sign-index} (omega arith) in
+    c.page_end.ensures
+    ∙ Gather.ends_as_73 a.sheet pre.wide c.flushed.result
+    ∙ ap (λ (q : Place). after_format a.sheet q sign_page_end) (c.flushed.ensures ∙ ap (λ (n : ℕ). after_flush a.sheet p n) (sym size))
+    ∙ sym (Gather.end_after a.sheet pre.wide p cells (omega arith))
+    ∙ ap (λ (r : List ℕ). after_rest a.sheet p cells r) (sym all)
+    ∙ v.2.2

@@ -3,146 +3,104 @@ use Prim.Native.Nat.{ℕ, ◌-◌}
 use mathlib.Core.List.{List, [], ◌∷◌, ◌++◌}
 use mathlib.Core.Path.{◌≡◌, refl, sym, ◌∙◌, ap}
 use native.Mathlib.Omega.{arith}
-use lib.ListN.{length, set, take, drop, length-set, length-append}
-use lib.Seq.{length-take-le}
-use Rattle.pages.specs.Numbers.{hyphen}
+use lib.ListN.{length, drop, length-append}
 use Rattle.pages.specs.Words.{part_of}
 use Rattle.pages.specs.Place.{after_word}
-use Rattle.pages.specs.inside.Gather.{after_flush, flush_bytes, after_format, format_bytes, cells_held}
-use Rattle.pages.specs.declared.Gathering.{Gathering}
-use Rattle.pages.specs.declared.Place.{Place}
-use Rattle.pages.proofs.Moves as Moves
+use Rattle.pages.specs.inside.Gather.{after_flush, flush_bytes, format_bytes}
+use Rattle.pages.proofs.Bytes as Bytes
 use Rattle.pages.proofs.Words.{part_length}
 use Rattle.pages.proofs.Steps as Steps
 use Rattle.pages.proofs.writing.put_sign.Goals as goal
 
-abbrev waits : Place → ℕ → Gathering
-waits q n = record { place = q; cells = n }
+-- ---- A sign that ends a word
 
-pub slice_bounds-put_flush-end-then-ends_word : goal.slice_bounds-put_flush-end-then-ends_word
-slice_bounds-put_flush-end-then-ends_word c =
+pub put_move-q-requires : goal.put_move-q-requires
+put_move-q-requires c =
     let a = c.args in
-    sym (length-take-le a.n a.word.now (omega arith))
-
-pub put_flush-q-requires : goal.put_flush-q-requires
-put_flush-q-requires c =
-    let at_test = c in
-    let start = at_test in
-    let a = start.args in
-    let pre = start.requires in
-    let cells : List ℕ = take a.n a.word.now in
-    let size : length cells ≡ a.n = length-take-le a.n a.word.now (omega arith) in
-    let s = Steps.step_ends a.sheet a.p cells a.n a.g size (sym at_test.ends_word.ensures ∙ at_test.if-ends_word.true) in
-    let n = ap length s.bytes_are ∙ length-append (flush_bytes a.sheet a.p cells) (format_bytes a.sheet (after_flush a.sheet a.p a.n) a.g) in
+    let pre = c.requires in
+    let cells : List ℕ = a.word.now in
+    let s = Steps.step_ends a.sheet a.p cells a.sign (sym c.ends_word.ensures ∙ c.if-ends_word.true) in
+    let n = ap length s.bytes_are ∙ length-append (flush_bytes a.sheet a.p cells) (format_bytes a.sheet (after_flush a.sheet a.p (length cells)) a.sign) in
     let r = pre.0.room in
-    (record { modest = Moves.modest_more (omega arith) pre.0.modest; room = omega arith }, omega arith)
+    let m = c.flushed.ensures ∙ ap (after_flush a.sheet a.p) c.len.ensures.all in
+    rw (m, c.cells.ensures.all) (Bytes.goes_flush a.sheet a.p (length cells), omega arith)
 
-pub put_format-r-requires : goal.put_format-r-requires
-put_format-r-requires c =
-    let flushed = c in
-    let at_test = flushed in
-    let start = at_test in
-    let a = start.args in
-    let pre = start.requires in
-    let cells : List ℕ = take a.n a.word.now in
-    let size : length cells ≡ a.n = length-take-le a.n a.word.now (omega arith) in
-    let s = Steps.step_ends a.sheet a.p cells (length cells) a.g refl (sym at_test.ends_word.ensures ∙ at_test.if-ends_word.true) in
-    Steps.format_room a.sheet a.p cells a.g flushed.put_flush-q.ensures pre.0.modest (omega arith) (rw s.bytes_are at pre.0.room)
+pub format-requires : goal.format-requires
+format-requires c =
+    let a = c.args in
+    let pre = c.requires in
+    let cells : List ℕ = a.word.now in
+    let s = Steps.step_ends a.sheet a.p cells a.sign (sym c.ends_word.ensures ∙ c.if-ends_word.true) in
+    let f = Steps.flush_moved a.sheet a.p c.flushed.ensures c.len.ensures.all c.cells.ensures.all c.put_move-q.ensures in
+    (Steps.format_room a.sheet a.p cells a.sign f pre.0.modest (omega arith) (rw s.bytes_are at pre.0.room)).modest
+
+pub put_move-requires : goal.put_move-requires
+put_move-requires c =
+    let a = c.args in
+    let pre = c.requires in
+    let cells : List ℕ = a.word.now in
+    let s = Steps.step_ends a.sheet a.p cells a.sign (sym c.ends_word.ensures ∙ c.if-ends_word.true) in
+    let f = Steps.flush_moved a.sheet a.p c.flushed.ensures c.len.ensures.all c.cells.ensures.all c.put_move-q.ensures in
+    rw c.format.ensures (
+      Bytes.goes_format a.sheet c.put_move-q.result a.sign,
+      (Steps.format_room a.sheet a.p cells a.sign f pre.0.modest (omega arith) (rw s.bytes_are at pre.0.room)).room,
+    )
 
 pub returns-then-ends_word : goal.returns-then-ends_word
 returns-then-ends_word c =
-    let formatted = c in
-    let flushed = formatted in
-    let at_test = flushed in
-    let start = at_test in
-    let a = start.args in
-    let pre = start.requires in
-    let cells : List ℕ = take a.n a.word.now in
-    let size : length cells ≡ a.n = length-take-le a.n a.word.now (omega arith) in
-    let test = sym at_test.ends_word.ensures ∙ at_test.if-ends_word.true in
-    let s = Steps.step_ends a.sheet a.p cells a.n a.g size test in
-    let t = Steps.step_ends a.sheet a.p cells (length cells) a.g refl test in
-    let f = flushed.put_flush-q.ensures in
-    let h = formatted.put_format-r.ensures in
+    let a = c.args in
+    let cells : List ℕ = a.word.now in
+    let s = Steps.step_ends a.sheet a.p cells a.sign (sym c.ends_word.ensures ∙ c.if-ends_word.true) in
+    let f = Steps.flush_moved a.sheet a.p c.flushed.ensures c.len.ensures.all c.cells.ensures.all c.put_move-q.ensures in
+    let h = rw c.format.ensures at c.put_move.ensures in
     record {
-      place =
-          ap (λ (r : Place). waits r 0)
-          (Steps.both_moved a.sheet a.p cells a.g f h ∙ ap (λ (k : ℕ). after_format a.sheet (after_flush a.sheet a.p k) a.g) size)
-          ∙ sym s.moved;
-      wrote = rw t.bytes_are (Steps.both_wrote a.sheet a.p cells a.g f h);
-      waits = sym s.waits;
+      place = Steps.both_moved a.sheet a.p cells a.sign f h ∙ sym s.moved;
+      wrote = rw s.bytes_are (Steps.both_wrote a.sheet a.p cells a.sign f h);
+      waits = c.clear.ensures ∙ sym s.waits;
     }
 
-pub slice_bounds-put_word-end : goal.slice_bounds-put_word-end
-slice_bounds-put_word-end c = simp length-set (omega arith)
+-- ---- The cell that tells that the word is cut
 
-pub slice_bounds-put_word-end-then-n-sheet : goal.slice_bounds-put_word-end-then-n-sheet
-slice_bounds-put_word-end-then-n-sheet c =
-    let start = c in
-    let a = start.args in
-    let pre = start.requires in
-    let l = length-set a.word.now (a.n - 1) hyphen in
-    sym (length-take-le a.n (set a.word.now (a.n - 1) hyphen) (omega arith))
+pub put_move-q-requires-then-len-sheet : goal.put_move-q-requires-then-len-sheet
+put_move-q-requires-then-len-sheet c =
+    let a = c.args in
+    let pre = c.requires in
+    let cells : List ℕ = a.word.now in
+    let e : length cells ≡ a.sheet.width = sym c.len-2.ensures.all ∙ c.if-len-sheet.true in
+    let s = Steps.step_cuts a.sheet a.p cells a.sign (sym c.ends_word.ensures ∙ c.if-ends_word.false) e in
+    let part : List ℕ = part_of a.sheet.width cells in
+    let hyphened = c.hyphenate-held.ensures.part ∙ ap (λ (w : ℕ). part_of w cells) e in
+    let m = c.word.ensures ∙ ap (after_word a.sheet a.p) (c.len-then-len-sheet.ensures.all ∙ ap length hyphened) in
+    rw (m, c.cells-then-len-sheet.ensures.all ∙ hyphened) (Bytes.goes_word a.sheet a.p (length part), rw s.bytes_are at pre.0.room)
 
-pub put_word-q-requires : goal.put_word-q-requires
-put_word-q-requires c =
-    let filled = c in
-    let at_test = filled in
-    let start = at_test in
-    let a = start.args in
-    let pre = start.requires in
-    let cells : List ℕ = take a.n a.word.now in
-    let size : length cells ≡ a.n = length-take-le a.n a.word.now (omega arith) in
-    let s = Steps.step_cuts a.sheet a.p cells a.n a.g size (sym at_test.ends_word.ensures ∙ at_test.if-ends_word.false) filled.if-n-sheet.true in
-    let m = Steps.cut_part a.word.now a.n (omega arith) (omega arith) in
-    let k : part_of a.n cells ≡ part_of a.sheet.width cells = ap (λ (w : ℕ). part_of w cells) filled.if-n-sheet.true in
-    let l = part_length a.n cells (omega arith) (omega arith) in
-    rw m (
-      record { modest = Moves.modest_more (omega arith) pre.0.modest; room = rw k (rw s.bytes_are at pre.0.room) },
-      omega arith,
-    )
-
-pub bounds-word-0 : goal.bounds-word-0
-bounds-word-0 c = simp length-set (omega arith)
-
-pub bounds-word-1 : goal.bounds-word-1
-bounds-word-1 c = simp length-set (omega arith)
-
-pub returns-then-n-sheet : goal.returns-then-n-sheet
-returns-then-n-sheet c =
-    let placed = c in
-    let filled = placed in
-    let at_test = filled in
-    let start = at_test in
-    let a = start.args in
-    let pre = start.requires in
-    let cells : List ℕ = take a.n a.word.now in
-    let size : length cells ≡ a.n = length-take-le a.n a.word.now (omega arith) in
-    let s = Steps.step_cuts a.sheet a.p cells a.n a.g size (sym at_test.ends_word.ensures ∙ at_test.if-ends_word.false) filled.if-n-sheet.true in
-    let e : a.n ≡ a.sheet.width = filled.if-n-sheet.true in
-    let m = Steps.cut_part a.word.now a.n (omega arith) (omega arith) in
-    let k : part_of a.n cells ≡ part_of a.sheet.width cells = ap (λ (w : ℕ). part_of w cells) e in
-    let l : length (part_of a.n cells) ≡ a.n = part_length a.n cells (omega arith) (omega arith) in
-    let f = placed.put_word-q.ensures in
+pub returns-then-len-sheet : goal.returns-then-len-sheet
+returns-then-len-sheet c =
+    let a = c.args in
+    let pre = c.requires in
+    let cells : List ℕ = a.word.now in
+    let e : length cells ≡ a.sheet.width = sym c.len-2.ensures.all ∙ c.if-len-sheet.true in
+    let s = Steps.step_cuts a.sheet a.p cells a.sign (sym c.ends_word.ensures ∙ c.if-ends_word.false) e in
+    let hyphened = c.hyphenate-held.ensures.part ∙ ap (λ (w : ℕ). part_of w cells) e in
+    let m = c.word.ensures ∙ ap (after_word a.sheet a.p) (c.len-then-len-sheet.ensures.all ∙ ap length hyphened) in
+    let l = part_length a.sheet.width cells (omega arith) (omega arith) in
+    let f = rw (m, c.cells-then-len-sheet.ensures.all ∙ hyphened) at c.put_move-q-then-len-sheet.ensures in
+    let held = c.hyphenate-held.result in
     record {
-      place =
-          ap (λ (r : Place). waits r cells_held)
-          (f.place ∙ ap (λ (r : List ℕ). after_word a.sheet a.p (length r)) m ∙ ap (λ (j : ℕ). after_word a.sheet a.p j) (l ∙ e))
-          ∙ sym s.moved;
-      wrote = rw s.bytes_are (rw (m ∙ k) at f.wrote);
+      place = f.place ∙ ap (after_word a.sheet a.p) l ∙ sym s.moved;
+      wrote = rw s.bytes_are f.wrote;
       waits =
-          Steps.cut_waits a.word.now a.n (omega arith) (omega arith) a.g
-          ∙ ap (λ (w : ℕ). drop (w - 1) cells ++ a.g ∷ []) e ∙ sym s.waits;
+          c.push-then-len-sheet.ensures
+          ∙ ap (λ (x : List ℕ). x ++ a.sign ∷ [])
+          (c.push.ensures ∙ ap (λ (x : List ℕ). x ++ held ∷ []) c.clear-then-len-sheet.ensures
+          ∙ sym c.hyphenate-held.ensures.held ∙ ap (λ (w : ℕ). drop (w - 1) cells) e)
+          ∙ sym s.waits;
     }
+
+-- ---- A cell that waits
 
 pub returns : goal.returns
 returns c =
-    let at_test = c in
-    let start = at_test in
-    let a = start.args in
-    let pre = start.requires in
-    let cells : List ℕ = take a.n a.word.now in
-    let size : length cells ≡ a.n = length-take-le a.n a.word.now (omega arith) in
-    let s = Steps.step_waits a.sheet a.p cells a.n a.g size (sym at_test.ends_word.ensures ∙ at_test.if-ends_word.false) c.if-n-sheet.false in
-    let m = Steps.one_waits_more a.word.now a.n a.g (omega arith) in
-    record { place = sym s.moved; wrote = rw s.bytes_are (record { leaves = refl }); waits = m ∙ sym s.waits }
+    let a = c.args in
+    let cells : List ℕ = a.word.now in
+    let s = Steps.step_waits a.sheet a.p cells a.sign (sym c.ends_word.ensures ∙ c.if-ends_word.false) (λ e. c.if-len-sheet.false (c.len-2.ensures.all ∙ e)) in
+    record { place = sym s.moved; wrote = rw s.bytes_are (record { leaves = refl }); waits = c.push-2.ensures ∙ sym s.waits }

@@ -1,86 +1,50 @@
 -- `pages::writing::write` meets its contract. The loop's invariant is `Going`: what is written, joined to what the rest still yields, is the whole.
-use mathlib.Core.Path.{refl, sym, ◌∙◌, ap}
+use mathlib.Core.Path.{◌∙◌, ap}
 use native.Mathlib.Omega.{arith}
-use lib.ListN.{length}
-use lib.Seq.{length-sets, length-take-le}
-use Rattle.pages.specs.Words.{items_of}
-use Rattle.pages.specs.Place.{volume}
-use Rattle.pages.proofs.Going.{Sized, going_first, sign_room, going_more, flush_room, page_end_room, whole_written}
+use Rattle.table.specs.Numbers.{sign_page_end}
+use Rattle.pages.specs.inside.Gather.{after_flush}
+use Rattle.pages.proofs.Going.{going_first, sign_room, going_more, flush_room, page_end_room, whole_written}
+use Rattle.pages.proofs.Bytes as Bytes
+use Rattle.pages.proofs.Steps.{flush_moved}
+use Rattle.pages.proofs.Gather.{ends_as_73}
 use Rattle.pages.proofs.writing.write.Goals as goal
 
-pub loop-i-init : goal.loop-i-init
-loop-i-init c =
+pub loop-sign-init : goal.loop-sign-init
+loop-sign-init c = rw (c.first-p.ensures, c.new-word.ensures) (going_first c.requires)
+
+pub put_sign-p-requires : goal.put_sign-p-requires
+put_sign-p-requires c =
+    let z = c.requires in
+    let v = c.loop-sign.invariant in
+    (sign_room z v (omega arith), v.below, z.fillable.wide, z.fillable.narrow)
+
+pub loop-sign-preserved : goal.loop-sign-preserved
+loop-sign-preserved c = going_more c.requires c.loop-sign.invariant (omega arith) c.put_sign-p.ensures
+
+pub put_move-q-requires : goal.put_move-q-requires
+put_move-q-requires c =
     let a = c.args in
-    let pre = c.requires in
-    let z : Sized a.sheet a.signs.now a.out.now = record { most = pre.0; wide = pre.1; narrow = pre.2; room = pre.3 } in
-    rw c.first-p.ensures (going_first z _ refl)
+    let p = c.loop-sign.p in
+    let m = c.flushed.ensures ∙ ap (after_flush a.sheet p) c.len.ensures.all in
+    rw (m, c.cells.ensures.all) (Bytes.goes_flush a.sheet p _, (flush_room c.requires c.loop-sign.invariant c.loop-sign-test.false).room)
 
-pub slice_bounds-put_sign-end : goal.slice_bounds-put_sign-end
-slice_bounds-put_sign-end c = sym c.loop-i.invariant.buffer
+pub page_end-requires : goal.page_end-requires
+page_end-requires c =
+    let f = flush_moved c.args.sheet c.loop-sign.p c.flushed.ensures c.len.ensures.all c.cells.ensures.all c.put_move-q.ensures in
+    (page_end_room c.requires c.loop-sign.invariant c.loop-sign-test.false f).modest
 
-pub put_sign-s-requires : goal.put_sign-s-requires
-put_sign-s-requires c =
+pub put_move-requires : goal.put_move-requires
+put_move-requires c =
     let a = c.args in
-    let pre = c.requires in
-    let z : Sized a.sheet a.signs.now a.out.now = record { most = pre.0; wide = pre.1; narrow = pre.2; room = pre.3 } in
-    let v = c.loop-i.invariant in
-    let b = v.buffer in
-    (sign_room z v c.loop-i-test.true, v.below, pre.1, pre.2, omega arith)
-
-pub loop-i-preserved : goal.loop-i-preserved
-loop-i-preserved c =
-    let a = c.args in
-    let pre = c.requires in
-    let z : Sized a.sheet a.signs.now a.out.now = record { most = pre.0; wide = pre.1; narrow = pre.2; room = pre.3 } in
-    let v = c.loop-i.invariant in
-    going_more z v c.loop-i-test.true c.put_sign-s.ensures (c.put_sign-s.auto.word ∙ v.buffer)
-
-pub slice_bounds-word-end : goal.slice_bounds-word-end
-slice_bounds-word-end c =
-    let v = c.loop-i.invariant in
-    let b = v.buffer in
-    let s = v.below in
-    omega arith
-
-pub slice_bounds-put_flush-end : goal.slice_bounds-put_flush-end
-slice_bounds-put_flush-end c =
-    let v = c.loop-i.invariant in
-    let b = v.buffer in
-    let s = v.below in
-    sym (length-take-le c.loop-i.n c.loop-i.word (omega arith))
-
-pub put_flush-q-requires : goal.put_flush-q-requires
-put_flush-q-requires c =
-    let a = c.args in
-    let pre = c.requires in
-    let z : Sized a.sheet a.signs.now a.out.now = record { most = pre.0; wide = pre.1; narrow = pre.2; room = pre.3 } in
-    let v = c.loop-i.invariant in
-    let b = v.buffer in
-    let s = v.below in
-    let l = length-take-le c.loop-i.n c.loop-i.word (omega arith) in
-    (flush_room z v c.loop-i-test.false, omega arith)
-
-pub put_format-requires : goal.put_format-requires
-put_format-requires c =
-    let a = c.args in
-    let pre = c.requires in
-    let z : Sized a.sheet a.signs.now a.out.now = record { most = pre.0; wide = pre.1; narrow = pre.2; room = pre.3 } in
-    let v = c.loop-i.invariant in
-    page_end_room z v c.loop-i-test.false c.put_flush-q.ensures
-
-pub shape_of-out : goal.shape_of-out
-shape_of-out c =
-    let a = c.args in
-    let pre = c.requires in
-    let z : Sized a.sheet a.signs.now a.out.now = record { most = pre.0; wide = pre.1; narrow = pre.2; room = pre.3 } in
-    let v = c.loop-i.invariant in
-    let w = whole_written z v c.loop-i-test.false c.put_flush-q.ensures c.put_format.ensures in
-    ap length w ∙ length-sets a.out.now 0 (volume a.sheet (items_of a.sheet.width a.signs.now))
+    let z = c.requires in
+    let f = flush_moved a.sheet c.loop-sign.p c.flushed.ensures c.len.ensures.all c.cells.ensures.all c.put_move-q.ensures in
+    let e = c.page_end.ensures ∙ ends_as_73 a.sheet z.fillable.wide c.put_move-q.result in
+    rw e (Bytes.goes_format a.sheet c.put_move-q.result sign_page_end, (page_end_room z c.loop-sign.invariant c.loop-sign-test.false f).room)
 
 pub returns : goal.returns
 returns c =
     let a = c.args in
-    let pre = c.requires in
-    let z : Sized a.sheet a.signs.now a.out.now = record { most = pre.0; wide = pre.1; narrow = pre.2; room = pre.3 } in
-    let v = c.loop-i.invariant in
-    record { leaves = whole_written z v c.loop-i-test.false c.put_flush-q.ensures c.put_format.ensures }
+    let z = c.requires in
+    let f = flush_moved a.sheet c.loop-sign.p c.flushed.ensures c.len.ensures.all c.cells.ensures.all c.put_move-q.ensures in
+    let e = c.page_end.ensures ∙ ends_as_73 a.sheet z.fillable.wide c.put_move-q.result in
+    record { leaves = whole_written z c.loop-sign.invariant c.loop-sign-test.false f (rw e at c.put_move.ensures) }

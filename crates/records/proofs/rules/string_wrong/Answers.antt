@@ -1,38 +1,27 @@
--- `records::rules::string_wrong` meets its contract. The loop's invariant: the string bytes passed are right.
-use borrow.Author.Count.{below_more}
-use mathlib.Core.Bool.{not}
-use mathlib.Core.Path.{◌≡◌, sym, ◌∙◌, ap}
-use native.Mathlib.Omega.{arith}
-use Rattle.table.specs.Numbers.{most_length}
+-- `records::rules::string_wrong` meets its contract: the walk finds the first string byte that is wrong. A character is in the alphabet where it has a number.
+use Rattle.std.proofs.Common.{ℕ, ◌+◌, Bool, true, false, not, ◌≡◌, ◌∙◌, ap, arith, rules}
+use Rattle.std.proofs.lemmas.Grind.{common_steps}
+use Rattle.std.proofs.lemmas.Iterator.{first_from_Range}
+use Rattle.table.specs.Numbers.{string_byte, most_length}
+use Rattle.table.specs.Sections.{record_byte, byte_at, offset}
+use Rattle.table.specs.Records.{symbols, right_string_byte}
 use Rattle.table.specs.inside.Found.{found}
-use Rattle.table.proofs.Search.{found_first, found_none}
-use Rattle.records.proofs.rules.string_wrong.Invariants.{fails}
+use Rattle.table.proofs.Search.{first_same}
+use Rattle.records.specs.inside.Judging.{right_character}
+use Rattle.records.proofs.LetterNumbers.{character_tests}
+use Rattle.records.proofs.Walks.{first_passing}
 use Rattle.records.proofs.rules.string_wrong.Goals as goal
 
-pub loop-i-init : goal.loop-i-init
-loop-i-init c = (omega arith, λ j l. absurd (omega arith))
-
-pub returns-then-not-character_right : goal.returns-then-not-character_right
-returns-then-not-character_right c =
-    let judged : (let a = c.args in fails a.image.now a.contractions a.letters.now a.k a.len c.loop-i.i) ≡ not c.character_right.result =
-    rw (← c.record_byte.ensures.is) (ap not (sym c.character_right.ensures)) in
-    let a = c.args in
-    let at = c.loop-i in
-    ap found
-    (sym
-    (found_first (fails a.image.now a.contractions a.letters.now a.k a.len) most_length at.i at.invariant.1 (omega arith)
-    (judged ∙ c.if-not-character_right.true-raw)))
-
-pub loop-i-preserved : goal.loop-i-preserved
-loop-i-preserved c =
-    let judged : (let a = c.args in fails a.image.now a.contractions a.letters.now a.k a.len c.loop-i.i) ≡ not c.character_right.result =
-    rw (← c.record_byte.ensures.is) (ap not (sym c.character_right.ensures)) in
-    (omega arith, below_more _ _ c.loop-i.invariant.1 (judged ∙ c.if-not-character_right.false-raw))
-
 pub returns : goal.returns
+unfolding record_byte byte_at
 returns c =
     let a = c.args in
-    ap found
-    (sym
-    (found_none (fails a.image.now a.contractions a.letters.now a.k a.len) most_length c.loop-i.i c.loop-i.invariant.1
-    (omega arith)))
+    let char : ℕ → ℕ = λ i. record_byte a.image.now a.s.contractions a.k (string_byte + i) in
+    let test : ℕ → Bool = λ i. not (right_character a.letters.now a.len i (char i)) in
+    first_passing test most_length c.find.result
+    (first_from_Range _ _ _ c.find.result (λ j. test j ≡ true) (λ j. test j ≡ false) c.find.ensures.ran
+    (λ x q h. grind (arith, common_steps))
+    (λ x q h. search rules))
+    ∙ ap found
+    (first_same test (λ i. not (right_string_byte (symbols a.image.now a.s) a.len i (char i))) most_length
+    (λ i l. ap not (character_tests a.image.now a.s (char i) a.letters.now c.requires a.len i (c.type_inv.image (offset a.s.contractions a.k + (string_byte + i))).fits)))

@@ -1,43 +1,35 @@
--- `tables::making::column_at` meets its contract. The loop's invariant: `n` characters stand between the last line feed and place `i`; up to `end` the text is
--- what it is up to `at`.
-use Prim.Native.Nat.{ℕ, suc, ◌+◌, ◌<◌}
-use mathlib.Core.Path.{◌≡◌, refl, sym, ◌∙◌, ap}
-use native.Mathlib.Numerals.{add-one}
+-- `tables::making::column_at` meets its contract. The loop's invariant: `n` is the column of the place so far, and no more than one more than it.
+use Prim.Native.Nat.{ℕ, suc, ◌+◌}
+use mathlib.Core.List.{List}
+use mathlib.Core.Path.{refl, sym, ◌∙◌, ap}
 use native.Mathlib.Omega.{arith}
-use lib.ListN.{length, take}
-use Rattle.form.specs.Reading.{column_at, since_feed}
-use Rattle.tables.proofs.Places.{whole_take, since_feed_lem, since_other}
+use lib.ListN.{take}
+use lib.Seq.{take_all}
+use Rattle.form.specs.Reading.{since_feed, column_at}
+use Rattle.tables.proofs.Places.{front, since_feed_lem, since_other}
 use Rattle.tables.proofs.making.column_at.Goals as goal
-use Rattle.tables.proofs.making.column_at.Goals.{then-at-text, else-at-text, then-text-i-eq10, else-text-i-eq10}
+use Rattle.tables.proofs.making.column_at.Goals.{then-c-eq10, else-c-eq10}
 
-pub loop-i-init : goal.loop-i-init
+pub loop-c-init : goal.loop-c-init
 unfolding since_feed
-loop-i-init c =
-    let text = c.args.text.now in
-    let at = c.args.at in
-    elim c.if-at-text.branch [
-      | then-at-text w ↦ (((omega arith, omega (arith, w.if-at-text.true, w.end-is)), (omega arith, refl)), ap (λ (k : ℕ). take k text) w.end-is)
-      | else-at-text w ↦ (((omega arith, omega (arith, w.end-is)), (omega arith, refl)), ap (λ (k : ℕ). take k text) w.end-is ∙ whole_take text at w.if-at-text.false)
-    ]
+loop-c-init c = (omega arith, refl)
 
-pub loop-i-preserved : goal.loop-i-preserved
-loop-i-preserved c =
-    let l = c.loop-i in
-    let text = c.args.text.now in
-    let inside : l.i < length text = omega arith in
-    elim c.if-text-i-eq10.branch [
-      | then-text-i-eq10 w ↦ (((omega arith, l.invariant.0.0.1), (omega (arith, w.n-is), w.n-is ∙ sym (since_feed_lem text l.i inside w.if-text-i-eq10.true))), l.invariant.1)
-      | else-text-i-eq10 w ↦ (
-        ((omega arith, l.invariant.0.0.1), (omega (arith, w.n-is), w.n-is ∙ ap (λ (k : ℕ). k + 1) l.invariant.0.1.1 ∙ sym (since_other text l.i inside w.if-text-i-eq10.false))),
-        l.invariant.1,
+pub loop-c-preserved : goal.loop-c-preserved
+loop-c-preserved c =
+    let l = c.loop-c in
+    let part = take c.min.result c.args.text.now in
+    elim c.if-c-eq10.branch [
+      | then-c-eq10 w ↦ (omega (arith, w.n-is), w.n-is ∙ ap suc (sym (since_feed_lem part l.c-index c.loop-c-test.true w.if-c-eq10.true)))
+      | else-c-eq10 w ↦ (
+        omega (arith, w.n-is, l.invariant.0),
+        w.n-is ∙ ap (λ (k : ℕ). k + 1) l.invariant.1 ∙ omega (arith, since_other part l.c-index c.loop-c-test.true w.if-c-eq10.false),
       )
     ]
 
 pub returns : goal.returns
 unfolding column_at
 returns c =
-    let l = c.loop-i in
-    let text = c.args.text.now in
-    let here : l.i ≡ c.if-at-text.end = omega arith in
-    add-one l.n
-    ∙ ap suc (l.invariant.0.1.1 ∙ ap (λ (k : ℕ). since_feed 0 (take k text)) here ∙ ap (since_feed 0) l.invariant.1)
+    let l = c.loop-c in
+    let part = take c.min.result c.args.text.now in
+    l.invariant.1
+    ∙ ap (λ (xs : List ℕ). suc (since_feed 0 xs)) (take_all l.c-index part (omega arith) ∙ front c.args.text.now c.args.at c.min.result c.min.ensures)

@@ -7,6 +7,7 @@ use lib.ListN.{length}
 use Rattle.form.specs.Reading.{reading, image_of}
 use Rattle.tables.specs.inside.Steps.{body_of}
 use Rattle.tables.proofs.Frame.{image_long}
+use Rattle.tables.proofs.Trailer.{letters_few}
 use Rattle.tables.proofs.Makes.{drafted_comes, ends_short, ends_done, made_put}
 use Rattle.tables.proofs.making.make_drafted.Goals as goal
 
@@ -14,29 +15,26 @@ use Rattle.tables.proofs.making.make_drafted.Goals as goal
 abbrev body_in : List ℕ → List ℕ
 body_in text = body_of (reading text)
 
-pub letters_for-body-requires : goal.letters_for-body-requires
-letters_for-body-requires c = (drafted_comes c.requires).modest
+pub overflow_add-needed : goal.overflow_add-needed
+overflow_add-needed c = rw c.letters_for-body.ensures (omega (arith, letters_few c.args.drafted.draft c.args.drafted.modest))
 
 pub returns-then-out-needed : goal.returns-then-out-needed
 returns-then-out-needed c =
     let body_is : c.letters_for-body.result ≡ length (body_in c.args.text.now) =
-    omega (arith, c.letters_for-body.ensures.0, (drafted_comes c.requires).size) in
-    let needed_is : c.letters_for-body.result + 14 ≡ length (image_of c.args.draft (body_in c.args.text.now)) =
-    omega (arith, body_is, image_long c.args.draft (body_in c.args.text.now)) in
+    omega (arith, c.letters_for-body.ensures, (drafted_comes c.requires).size) in
+    let needed_is : c.letters_for-body.result + 14 ≡ length (image_of c.args.drafted.draft (body_in c.args.text.now)) =
+    omega (arith, body_is, image_long c.args.drafted.draft (body_in c.args.text.now)) in
     let a = c.args in
-    ends_short a.out.now (image_of a.draft (body_in c.args.text.now)) _ needed_is c.if-out-needed.true
-
-pub put_trailer-requires : goal.put_trailer-requires
-put_trailer-requires c = ((drafted_comes c.requires).modest, omega arith)
+    ends_short a.out.now (image_of a.drafted.draft (body_in c.args.text.now)) _ needed_is c.if-out-needed.true
 
 pub returns : goal.returns
 returns c =
     let body_is : c.letters_for-body.result ≡ length (body_in c.args.text.now) =
-    omega (arith, c.letters_for-body.ensures.0, (drafted_comes c.requires).size) in
-    let needed_is : c.letters_for-body.result + 14 ≡ length (image_of c.args.draft (body_in c.args.text.now)) =
-    omega (arith, body_is, image_long c.args.draft (body_in c.args.text.now)) in
+    omega (arith, c.letters_for-body.ensures, (drafted_comes c.requires).size) in
+    let needed_is : c.letters_for-body.result + 14 ≡ length (image_of c.args.drafted.draft (body_in c.args.text.now)) =
+    omega (arith, body_is, image_long c.args.drafted.draft (body_in c.args.text.now)) in
     let a = c.args in
     let fits = c.if-out-needed.false in
-    ends_done a.out.now (image_of a.draft (body_in c.args.text.now)) _ _ needed_is (omega arith)
-    (made_put a.draft (body_in c.args.text.now) a.out.now c.walk.new.out c.put_trailer.new.out c.letters_for-body.result body_is
-    (c.walk.ensures.1 a.draft c.requires (omega (arith, body_is))) c.put_trailer.ensures)
+    ends_done a.out.now (image_of a.drafted.draft (body_in c.args.text.now)) _ _ needed_is (omega arith)
+    (made_put a.drafted.draft (body_in c.args.text.now) a.out.now c.walk.new.out c.put_trailer.new.out c.letters_for-body.result body_is
+    (c.walk.ensures.1 a.drafted.draft c.requires (omega (arith, body_is))) c.put_trailer.ensures)

@@ -1,17 +1,16 @@
--- `tables::making::put_number` meets its contract: two bytes, one after the other, are the number's.
-use Prim.Native.Nat.{ℕ, ◌/◌, ◌%◌}
-use mathlib.Core.Path.{ap}
-use native.Mathlib.Numerals.{add-one}
+-- `tables::making::put_number` meets its contract: the two bytes are the number's.
+use Prim.Native.Nat.{ℕ, ◌+◌, ◌/◌, ◌%◌}
+use mathlib.Core.List.{[], ◌∷◌}
+use mathlib.Core.Path.{◌≡◌, refl, ◌∙◌, ap}
 use native.Mathlib.Omega.{arith}
-use lib.ListN.{set, length-set}
+use Rattle.table.proofs.Wrote.{run_written}
 use Rattle.form.specs.Fields.{number_bytes}
 use Rattle.tables.proofs.making.put_number.Goals as goal
-
-pub bounds-out-at-2 : goal.bounds-out-at-2
-bounds-out-at-2 c = simp length-set (omega arith)
 
 pub returns : goal.returns
 unfolding number_bytes
 returns c =
     let a = c.args in
-    record { leaves = ap (λ (i : ℕ). set (set a.out.now a.at (a.n % 256)) i (a.n / 256)) (add-one a.at) }
+    let high : a.n / 256 % 256 ≡ a.n / 256 = omega arith in
+    let bytes = c.copy_from_slice.ensures.after ∙ c.to_le_bytes.ensures ∙ ap (λ (h : ℕ). a.n % 256 ∷ h ∷ []) high in
+    run_written a.out.now c.copy_from_slice.new.self a.at (a.at + 2) (number_bytes a.n) bytes refl c.requires.0

@@ -1,11 +1,12 @@
--- `tlopahuexi::checking::tlopahuexi_check` meets its contract: proofs/Told.antt, from what `check` and the refusal's methods promise.
-use borrow.Author.Rules.{rules}
-use Rattle.calls.proofs.Told.{judged_accepted, judged_refused}
+-- `tlopahuexi::checking::tlopahuexi_check` meets its contract: the verdict is that of `check`, and the stored values are the verdict's.
+use Rattle.std.proofs.Common.{refl}
+use Rattle.calls.specs.Promises.{two_values}
+use Rattle.calls.proofs.Told.{two_refused}
 use Rattle.tlopahuexi.proofs.checking.tlopahuexi_check.Goals as goal
 
-pub returns-in-Accepted : goal.returns-in-Accepted
-returns-in-Accepted c = judged_accepted c.check.ensures c.in-Accepted.is
+pub returns-in-Ok : goal.returns-in-Ok
+unfolding two_values
+returns-in-Ok c = record { verdict = _; checks = c.check.ensures; tells = rw c.in-Ok.is refl }
 
-pub returns-in-Refused : goal.returns-in-Refused
-returns-in-Refused c =
-    judged_refused c.check.ensures c.in-Refused.is c.number.ensures c.place.ensures
+pub returns-in-Err : goal.returns-in-Err
+returns-in-Err c = record { verdict = _; checks = c.check.ensures; tells = rw (c.in-Err.is, c.from.ensures, c.number.ensures.is, c.place.ensures.is) (two_refused _) }

@@ -1,9 +1,6 @@
--- `tlopahuexi::drawing::tlopahuexi_make` meets its contract: proofs/Told.antt, from what `make` and the answer's methods promise.
-use borrow.Author.Rules.{rules}
-use Rattle.calls.proofs.Told.{redrawn}
+-- `tlopahuexi::drawing::tlopahuexi_make` meets its contract: the answer and the output are those that `make` promises, and the stored values are the
+-- answer's.
 use Rattle.tlopahuexi.proofs.drawing.tlopahuexi_make.Goals as goal
 
 pub returns : goal.returns
-returns c =
-    redrawn c.make-a.ensures c.number.ensures c.place.ensures c.written.ensures
-    c.line.ensures c.column.ensures
+returns c = record { answer = _; ends = c.make.ensures; tells = c.five_values.ensures }

@@ -1,8 +1,6 @@
--- `tlopahuexi::filing::tlopahuexi_read_file` meets its contract: proofs/Told.antt, from what `read_file` and the answer's methods promise.
-use borrow.Author.Rules.{rules}
+-- `tlopahuexi::filing::tlopahuexi_read_file` meets its contract: proofs/Told.antt of calls, from what `read_file` promises and the values that are stored.
 use Rattle.calls.proofs.Told.{converted}
 use Rattle.tlopahuexi.proofs.filing.tlopahuexi_read_file.Goals as goal
 
 pub returns : goal.returns
-returns c =
-    converted c.read_file-a.ensures c.number.ensures c.place.ensures c.written.ensures
+returns c = converted c.read_file.ensures c.three_values.ensures

@@ -1,28 +1,37 @@
 -- `translation::collapsing::thin` meets its contract: a bar, and a blank where none is kept any more, are passed over, and any other character is
 -- written, in the four cases of the definitions.
-use borrow.Author.Rules.{rules}
-use mathlib.Core.Path.{sym, ◌∙◌}
-use Rattle.translation.proofs.Thinned.{bar_goes, blank_goes, blank_stays, other_stays, passed_over, written}
+use mathlib.Core.Logic.{◌≢◌}
+use mathlib.Core.Path.{◌≡◌, sym, ◌∙◌}
+use native.Mathlib.Omega.{arith}
+use Rattle.translation.proofs.Thinned.{bar_goes, blank_goes, blank_stays, other_stays}
 use Rattle.translation.proofs.collapsing.thin.Goals as goal
 
 pub returns-then-c-eq124 : goal.returns-then-c-eq124
-returns-then-c-eq124 c = passed_over (search rules) (λ text. bar_goes _ _ text c.if-c-eq124.true)
+returns-then-c-eq124 c = record { whole = λ text. sym (bar_goes _ _ text c.if-c-eq124.true) }
 
-pub returns-then-kept-eq0 : goal.returns-then-kept-eq0
-returns-then-kept-eq0 c =
-    passed_over (search rules)
-    (λ text. blank_goes _ _ text c.if-c-eq124.false (sym c.unfed-d.ensures ∙ c.if-d-eq32.true) c.if-kept-eq0.true)
+pub returns-in_err-kept : goal.returns-in_err-kept
+returns-in_err-kept c =
+    let e = c.unfed-c.ensures in
+    let none : c.args.kept.now ≡ 0 = omega (arith, c.in_err-kept.ensures) in
+    rw c.from_residual.ensures
+    (record { whole = λ text. sym (blank_goes _ _ text c.if-c-eq124.false (sym e ∙ c.if-c-eq32.true) none) })
 
-pub returns-then-d-eq32 : goal.returns-then-d-eq32
-returns-then-d-eq32 c =
-    let e = c.unfed-d.ensures in
-    rw e
-    (written _ _ (search rules)
-    (λ text. blank_stays _ _ text c.if-c-eq124.false (sym e ∙ c.if-d-eq32.true) c.if-kept-eq0.false))
+pub returns-in_ok-kept : goal.returns-in_ok-kept
+returns-in_ok-kept c =
+    let e = c.unfed-c.ensures in
+    let one_less = c.in_ok-kept.ensures in
+    let some : c.args.kept.now ≢ 0 = omega arith in
+    record {
+      whole =
+          λ text.
+          sym (rw (one_less.1, e) (blank_stays _ _ text c.if-c-eq124.false (sym e ∙ c.if-c-eq32.true) some));
+    }
 
-pub returns : goal.returns
-returns c =
-    let e = c.unfed-d.ensures in
-    rw (c.kept_after.ensures, e)
-    (written _ _ (search rules)
-    (λ text. other_stays _ _ text c.if-c-eq124.false (λ b. c.if-d-eq32.false (e ∙ b))))
+pub returns-else-c-eq32 : goal.returns-else-c-eq32
+returns-else-c-eq32 c =
+    let e = c.unfed-c.ensures in
+    record {
+      whole =
+          λ text.
+          sym (rw (c.kept_after.ensures, e) (other_stays _ _ text c.if-c-eq124.false (λ b. c.if-c-eq32.false (e ∙ b))));
+    }

@@ -14,9 +14,8 @@ returns-then-n-lt10 t c =
     let one = ap length (decimal_one c.args.n c.if-n-lt10.true) in
     (sym one, omega arith)
 
--- src/putting.rt:55:1
-pub returns : goal.returns
-returns t c =
+pub returns-else-n-lt10 : goal.returns-else-n-lt10
+returns-else-n-lt10 t c =
     let n : ℕ = c.args.n in
     let more = ap length (decimal_more n c.if-n-lt10.false c.ranges.n.fits) in
     let apart = length-append (decimal (n / 10)) ((zero_digit + n % 10) ∷ []) in

@@ -1,0 +1,2 @@
+-- What a reader has to believe about the desk.
+pub mod Statuses

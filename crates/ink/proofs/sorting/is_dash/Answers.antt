@@ -1,8 +1,0 @@
--- `ink::sorting::is_dash` meets its contract: the body is the definition's test.
-use mathlib.Core.Path.{refl}
-use Rattle.inkprint.specs.Glyphs.{is_dash}
-use Rattle.ink.proofs.sorting.is_dash.Goals as goal
-
-pub returns : goal.returns
-unfolding is_dash
-returns c = refl
