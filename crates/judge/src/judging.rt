@@ -6,7 +6,7 @@ ghost use Rattle.framing.specs.Promises.{Located};
 ghost use Rattle.judge.specs.Promises.{Checked};
 ghost use Rattle.judge.specs.inside.Faults.{refusal_of};
 
-use crate::groups::first_break;
+use crate::groups::Strings;
 use framing::{framed, offset_of, section_named};
 use records::{Fault, judge_records};
 use table::{Refusal, SectionName, Sections};
@@ -40,7 +40,8 @@ fn refusal_of(s: Sections, fault: Fault) -> Refusal
 fn judge_grouping(image: &[u8], s: Sections) -> Result<(), Refusal>
     ensures { result ≡ grouping_verdict image.now s }
 {
-    match first_break(image, s) {
+    let strings = Strings { image, sections: s };
+    match strings.first_break() {
         Some(r) => Err(Refusal::Grouping(offset_of(s.contractions, r))),
         None => Ok(()),
     }

@@ -13,6 +13,7 @@ use Rattle.table.specs.Sections.{frame_right, sections_of}
 use Rattle.table.specs.Records.{symbols, Wrong, first_wrong}
 use Rattle.table.specs.declared.Sections.{Sections}
 use Rattle.table.proofs.Frame.{sections_unframed, framed_classes, framed_variables}
+use Rattle.table.proofs.Laid.{sections_laid}
 use Rattle.records.specs.Judged.{blank_judged, records_judged}
 use Rattle.records.specs.inside.Judging.{letter_number, fault_of}
 use Rattle.std.specs.Prelude.{Ok, Err}
@@ -29,6 +30,14 @@ few_numbers image = go (frame_right image) refl
         let classes = framed_classes image e in
         let variables = framed_variables image e in
         omega arith
+    go false e = rw (sections_unframed image e) (omega arith)
+
+-- and so is that of alphabet records
+pub few_letters : (image : List ℕ) → (sections_of image).alphabet.records < 65535
+few_letters image = go (frame_right image) refl
+  where
+    go : (b : Bool) → frame_right image ≡ b → (sections_of image).alphabet.records < 65535
+    go true e = let most = (sections_laid image e).alphabet_laid.number_right in omega arith
     go false e = rw (sections_unframed image e) (omega arith)
 
 module _ (image : List ℕ) (s : Sections) where

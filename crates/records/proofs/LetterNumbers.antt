@@ -1,22 +1,22 @@
 -- The number of a symbol's first alphabet record: how it moves on by one record, and what it tells: that a symbol is in the alphabet, and that it is not
 -- that of an earlier record.
 use Prim.Native.Nat.{ℕ, ◌+◌, ◌<◌}
-use mathlib.Core.Bool.{Bool, true, false≢true, cond, not, ◌&&◌}
+use mathlib.Core.Bool.{Bool, true, false≢true, not, ◌&&◌}
 use mathlib.Core.List.{List}
 use mathlib.Core.Option.{Option, none, some}
 use mathlib.Core.Path.{◌≡◌, refl, sym, ◌∙◌, ap, subst}
 use native.Mathlib.Decide.{ℕ_discrete}
 use native.Mathlib.Omega.{arith}
-use lib.Dec.{ltb, eqb}
+use lib.Dec.{eqb}
 use lib.ListN.{get_or, set, take, length-set}
 use lib.Seq.{get_or-set_same, get_or-set_other}
 use borrow.Author.Tests.{eqb-true, eqb-false, eq-eqb, ne_eqb}
-use Rattle.table.specs.Numbers.{symbol_byte, padding}
+use Rattle.table.specs.Numbers.{symbol_byte}
 use Rattle.table.specs.Search.{first, member}
 use Rattle.table.specs.Sections.{record_byte}
-use Rattle.table.specs.Records.{symbols, right_symbol, right_new_symbol, right_string_byte}
+use Rattle.table.specs.Records.{symbols, right_symbol, right_new_symbol}
 use Rattle.table.specs.Refusals.{symbol_of, InAlphabet}
-use Rattle.records.specs.inside.Judging.{number_of, letter_number, Gathered, LettersBySymbol, right_character}
+use Rattle.records.specs.inside.Judging.{number_of, letter_number, Gathered, LettersBySymbol}
 use Rattle.table.specs.declared.Section.{Section}
 use Rattle.table.specs.declared.Sections.{Sections}
 use Rattle.table.proofs.Tests.{Tells, same_tests, tells_not}
@@ -136,12 +136,9 @@ module _ (image : List ℕ) (s : Sections) (c : ℕ) where
           }) in
           eq-eqb _ _ (ap number_of e)
 
-  -- so the code judges a character by its number
-  pub character_tests : (letters : List ℕ) → LettersBySymbol image s.alphabet letters → (len i : ℕ) → c < 256
-      → right_character letters len i c ≡ right_string_byte (symbols image s) len i c
-  unfolding right_character right_string_byte
-  character_tests letters gathered len i byte =
-      ap (λ (b : Bool). cond (ltb i len) b (eqb c padding)) (ap (λ (n : ℕ). not (eqb n 0)) (gathered.numbers c byte) ∙ number_in_alphabet)
+  -- so the code finds a character in the alphabet by its number
+  pub character_told : (letters : List ℕ) → LettersBySymbol image s.alphabet letters → c < 256 → member c (symbols image s) ≡ not (eqb (get_or letters c 0) 0)
+  character_told letters gathered byte = sym (ap (λ (n : ℕ). not (eqb n 0)) (gathered.numbers c byte) ∙ number_in_alphabet)
 
 -- and whether record `k`'s symbol is right and new
 pub symbol_told : (image : List ℕ) (s : Sections) (k : ℕ) (letters : List ℕ) → LettersBySymbol image s.alphabet letters → k < s.alphabet.records

@@ -4,6 +4,7 @@
 
 #![tactic(auto)]
 
+mod judge;
 mod rules;
 mod searching;
 

@@ -1,8 +1,8 @@
 -- What the code that judges records speaks of: the letters by their symbols, the fault of a wrong record. No heading of
 -- document 01.
-use Rattle.std.specs.Prelude.{ℕ, zero, suc, ◌+◌, ◌<◌, Bool, cond, not, List, ◌≡◌, ltb, eqb, length, get_or, Ok, Err}
+use Rattle.std.specs.Prelude.{ℕ, zero, suc, ◌+◌, ◌<◌, List, ◌≡◌, eqb, length, get_or, Ok, Err}
 use Rattle.std.proofs.Math.Option.{Option, none, some}
-use Rattle.table.specs.Numbers.{blank_cell, symbol_byte, signs_byte, padding}
+use Rattle.table.specs.Numbers.{blank_cell, symbol_byte, signs_byte}
 use Rattle.table.specs.Search.{first}
 use Rattle.table.specs.Sections.{record_byte}
 use Rattle.table.specs.Records.{Wrong}
@@ -29,10 +29,6 @@ pub record Gathered (image : List ℕ) (alphabet : Section) (n : ℕ) (letters :
 -- and among all of them
 abbrev pub LettersBySymbol : List ℕ → Section → List ℕ → Type 0
 LettersBySymbol image alphabet letters = Gathered image alphabet alphabet.records letters
-
--- of ten string bytes, those below the length have a letter, and the others are 0
-unfoldable pub right_character : List ℕ → ℕ → ℕ → ℕ → Bool
-right_character letters len i c = cond (ltb i len) (not (eqb (get_or letters c 0) 0)) (eqb c padding)
 
 -- the sign before the i-th of contraction record `k`; before the first stands none, which is as good as a blank
 abbrev pub sign_before : List ℕ → Section → ℕ → ℕ → ℕ

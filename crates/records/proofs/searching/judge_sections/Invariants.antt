@@ -1,9 +1,0 @@
--- `records::searching::judge_sections` meets its contract. The loop's invariant: the search goes on from a section as it went from the first.
-use Rattle.std.proofs.Common.{◌≡◌}
-use Rattle.table.specs.Records.{first_wrong}
-use Rattle.records.specs.inside.Judging.{fault_of}
-use Rattle.records.proofs.SectionSearch.{fault_from}
-use Rattle.records.proofs.searching.judge_sections.Given as goal
-
-abbrev pub invariant-loop-name : goal.invariant-loop-name
-invariant-loop-name l = fault_of (first_wrong l.image l.s) ≡ fault_from l.image l.s l.name-index
