@@ -2,26 +2,36 @@
 // kind to what they stand for, or to the bytes of the other.
 
 ghost use Rattle.std.specs.Prelude.{◌≡◌, ℕ, ◌<◌, ◌≤◌, slice_index};
-ghost use Rattle.embosser.specs.Chart.{written_as, stands_for, turned};
+ghost use Rattle.embosser.specs.Chart.{character_of, written_as, stands_for, turned};
 ghost use Rattle.embosser.specs.inside.Tables.{Holds};
 ghost use Rattle.embosser.specs.declared.Kind.TheVariants.{Layout};
 
 use embosser::Kind;
 
-// The characters of the output bytes: of each cell by the public North American braille ASCII chart,
-// then line feed for 64 and form feed for 65.
-const CHARACTERS: [u8; 66] =
-    *b" A1B'K2L@CIF/MSP\"E3H9O6R^DJG>NTQ,*5<-U8V.%[$+X!&;:4\\0Z7(_?W]#Y)=\n\x0c";
+// The public North American braille ASCII chart: the character of each cell.
+const CHART: [u8; 64] = *b" A1B'K2L@CIF/MSP\"E3H9O6R^DJG>NTQ,*5<-U8V.%[$+X!&;:4\\0Z7(_?W]#Y)=";
+
+// The character of an output byte: of a cell by the chart, a line feed for 64, a form feed for 65.
+#[tactic(auto, unfolding(embosser::specs::Chart::character_of, embosser::specs::Chart::characters))]
+fn character(byte: u8) -> u8
+    requires { byte < 66 }
+    ensures { result ≡ character_of byte }
+{
+    match byte {
+        64 => b'\n',
+        65 => b'\x0c',
+        _ => CHART[usize::from(byte)],
+    }
+}
 
 // An output byte as a byte of this kind.
-#[tactic(auto, unfolding(embosser::specs::Chart::character_of, embosser::specs::Chart::characters))]
 fn written_as(kind: Kind, byte: u8) -> u8
     requires { byte < 66 }
     ensures { result ≡ written_as kind byte }
 {
     match kind {
         Kind::Layout => byte,
-        Kind::File => CHARACTERS[usize::from(byte)],
+        Kind::File => character(byte),
     }
 }
 

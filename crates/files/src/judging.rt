@@ -34,16 +34,16 @@ fn step(sheet: Sheet, spot: Spot, byte: u8) -> Option<Spot>
     let room = spot.line < sheet.length;
     // Kept: a byte and no enum of cells and ends, since making one would be this match once more.
     match byte {
-        0..=63 => (room & (spot.column + cells_from(byte) <= sheet.width)).then_some(Spot {
+        0..=63 if room & (spot.column + cells_from(byte) <= sheet.width) => Some(Spot {
             column: spot.column + 1,
             blank: byte == 0,
             ..spot
         }),
-        64 => (room & !spot.blank).then_some(Spot {
+        64 if room & !spot.blank => Some(Spot {
             line: spot.line + 1,
             ..START
         }),
-        65 => ((spot.column == 0) & (0 < spot.line)).then_some(START),
+        65 if (spot.column == 0) & (0 < spot.line) => Some(START),
         _ => None,
     }
 }

@@ -16,7 +16,8 @@ const NO_SECTION: Section = Section {
     records: 0,
 };
 
-const NO_SECTIONS: Sections = Sections {
+// What stands for the sections of an image whose frame is wrong.
+pub const NO_SECTIONS: Sections = Sections {
     alphabet: NO_SECTION,
     contractions: NO_SECTION,
     contexts: NO_SECTION,

@@ -7,5 +7,5 @@
 mod frame;
 mod read;
 
-pub use frame::{framed, locate};
+pub use frame::{NO_SECTIONS, framed, locate};
 pub use read::{offset_of, record_byte, record_part, section_at, section_named, years_of};

@@ -2,7 +2,7 @@
 
 ghost use Rattle.std.specs.Prelude.{◌≡◌, Err};
 ghost use Rattle.table.specs.Verdict.{refusal_in, grouping_verdict};
-ghost use Rattle.framing.specs.Promises.{Located};
+ghost use Rattle.framing.specs.Promises.{Framed};
 ghost use Rattle.judge.specs.Promises.{Checked};
 ghost use Rattle.judge.specs.inside.Faults.{refusal_of};
 
@@ -47,13 +47,22 @@ fn judge_grouping(image: &[u8], s: Sections) -> Result<(), Refusal>
     }
 }
 
-// The verdict on any image: accepted, or the first thing that is wrong with it, and where.
-pub fn check(image: &[u8]) -> Result<(), Refusal>
+// The verdict on any image, by its sections where it has them: accepted, or the first thing that is
+// wrong with it, and where.
+pub(crate) fn verdict_on(image: &[u8], found: Option<Sections>) -> Result<(), Refusal>
+    requires { Framed image.now found }
     ensures { Checked image.now result }
 {
-    let s = framed(image).ok_or(Refusal::Frame)?;
+    let s = found.ok_or(Refusal::Frame)?;
     match judge_records(image) {
         Ok(()) => judge_grouping(image, s),
         Err(fault) => Err(refusal_of(s, fault)),
     }
+}
+
+// The verdict on any image.
+pub fn check(image: &[u8]) -> Result<(), Refusal>
+    ensures { Checked image.now result }
+{
+    verdict_on(image, framed(image))
 }

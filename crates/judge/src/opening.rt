@@ -1,22 +1,23 @@
-// An image is opened once: its sections are found, it is judged, and a reader holds both beside the
-// image as it was lent. What goes through a reader is straight; the work is done by functions on the
-// image and its sections.
+// An image is opened once: its sections are found, it is judged by them, and a reader holds both
+// beside the image as it was lent. What goes through a reader is straight; the work is done by
+// functions on the image and its sections.
 
 ghost use Rattle.judge.specs.Promises.{Reads, ReaderVerdict};
 
 use crate::Reader;
-use crate::judging::check;
-use framing::locate;
+use crate::judging::verdict_on;
+use framing::{NO_SECTIONS, framed};
 use table::Refusal;
 
 // Opens any image, whatever the verdict on it is.
 pub fn open<'a>(image: &'a [u8]) -> Reader<'a>
     ensures { Reads image.entry result }
 {
+    let found = framed(image);
     Reader {
         image,
-        sections: locate(image),
-        verdict: check(image),
+        sections: found.unwrap_or(NO_SECTIONS),
+        verdict: verdict_on(image, found),
     }
 }
 

@@ -20,17 +20,27 @@ struct Pen<'a> {
     at: usize,
 }
 
+// The bytes of a part from `at` on.
+// Kept: a store for each byte. `copy_from_slice` is compiled to `memmove`, which the archive for C would
+// then need of the C library too.
+fn put_part(out: &mut [u8], at: usize, bytes: &[u8])
+    requires { at + length bytes.now ≤ length out.old }
+    ensures { Wrote out.old at bytes.now out.new }
+{
+    for (j, &byte) in bytes.iter().enumerate() {
+        out[at + j] = byte;
+    }
+}
+
 impl Pen<'_> {
     // The bytes of a part.
-    #[tactic(auto, using(table::proofs::Wrote::run_written))]
     fn part(&mut self, bytes: &[u8])
         requires { self.old.at + length bytes.now ≤ length self.old.out.now }
         ensures same_output { self.new.out.ghost_name ≡ self.old.out.ghost_name }
         ensures puts { Puts self.old.out.now self.old.at bytes.now self.new.out.now self.new.at }
     {
-        let end = self.at + bytes.len();
-        self.out[self.at..end].copy_from_slice(bytes);
-        self.at = end;
+        put_part(self.out, self.at, bytes);
+        self.at += bytes.len();
     }
 
     // A two-byte number, low byte first.

@@ -10,6 +10,23 @@ ghost use Rattle.translation.specs.inside.Tables.{table_by, entry_by, states_by}
 use crate::translator::Translator;
 use crate::variables::States;
 
+// Whether a string begins the rest.
+// Kept: a loop. `starts_with` is a call for each entry that has the first character of the rest, and
+// by a table with many such entries the whole call then takes up to half as long again.
+fn starts(string: &[u8], rest: &[u8]) -> bool
+    ensures { result ≡ begins string.now rest.now }
+{
+    if rest.len() < string.len() {
+        return false;
+    }
+    for (i, &c) in string.iter().enumerate() {
+        if c != rest[i] {
+            return false;
+        }
+    }
+    true
+}
+
 impl Translator<'_> {
     // Whether the whole string of entry `k` begins the rest.
     fn begins(&self, k: u16, rest: &[u8]) -> bool
@@ -19,7 +36,7 @@ impl Translator<'_> {
         let entries = self.sections.contractions;
         let n = framing::record_byte(self.image, entries, k, 0);
         let string = framing::record_part(self.image, entries, k, 1, u16::from(n));
-        rest.starts_with(string)
+        starts(string, rest)
     }
 
     // Whether entry `k` is in force in the year.

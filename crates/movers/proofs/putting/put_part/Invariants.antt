@@ -1,0 +1,8 @@
+-- `movers::putting::put_part` meets its contract. The loop's invariant: the bytes passed are stored.
+use mathlib.Core.Path.{◌≡◌}
+use lib.ListN.{length, take}
+use lib.Seq.{sets}
+use Rattle.movers.proofs.putting.put_part.Given as goal
+
+abbrev pub invariant-loop-j : goal.invariant-loop-j
+invariant-loop-j l = (length l.out ≡ length l.initial.out) × (l.out ≡ sets l.initial.out l.at (take l.j l.bytes))
