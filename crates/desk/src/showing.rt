@@ -7,36 +7,25 @@ ghost use Rattle.io.specs.Counts.{IsPrefixLen};
 use console::write_whole;
 use std::io::Error;
 
-// One output byte at the place `at`: a cell as its character, U+2800 and the cell, in UTF-8; a line's
-// end as a line feed; a page's end as nothing. Answers the place after it.
-// Kept: a store for each byte. A `char` that a formatter encodes takes three times as long.
-fn put_byte(byte: u8, out: &mut [u8], at: usize) -> usize
-    requires { at + 3 ≤ length out.old }
-    ensures { result ≤ at + 3 }
-{
+// One output byte as people see it: a cell as its character, U+2800 and the cell; a line's end as a
+// line feed.
+fn shown(byte: u8) -> char {
     match byte {
-        0..64 => {
-            out[at] = 226;
-            out[at + 1] = 160;
-            out[at + 2] = 128 + byte;
-            at + 3
-        }
-        65 => at,
-        _ => {
-            out[at] = b'\n';
-            at + 1
-        }
+        0..64 => char::from_u32(0x2800 + u32::from(byte)).unwrap_or(' '),
+        _ => '\n',
     }
 }
 
-// The output bytes from the start of `out` on, and how many bytes they take.
+// The characters of these output bytes from the start of `out` on, and how many bytes they take.
+// Kept: into bytes, and not by a `Display`, whose formatter takes each character on by calls, so that
+// a file was read in twice the time.
 fn put_bytes(bytes: &[u8], out: &mut [u8]) -> usize
-    requires { 3 * length bytes.now ≤ length out.old }
+    requires { 4 * length bytes.now ≤ length out.old }
     ensures { IsPrefixLen result out.new }
 {
     let mut at = 0;
     for byte in bytes {
-        at = put_byte(*byte, out, at);
+        at += shown(*byte).encode_utf8(&mut out[at..]).len();
     }
     at
 }
@@ -45,7 +34,7 @@ fn put_bytes(bytes: &[u8], out: &mut [u8]) -> usize
 fn show_some(rt: &HostRuntime, bytes: &[u8]) -> Result<(), Error>
     requires { length bytes.now ≤ 1024 }
 {
-    let mut shown = [0; 3072];
+    let mut shown = [0; 4096];
     let length = put_bytes(bytes, &mut shown);
     write_whole(&mut rt.stdout(), &shown[..length])
 }
@@ -57,7 +46,8 @@ pub fn show(rt: &HostRuntime, layout: &[u8]) -> Result<(), Error> {
             let number = passed + 1;
             println!(rt; "--- page {number} ---")?;
         }
-        for some in page.chunks(1024) {
+        let lines = page.strip_suffix(&[65]).unwrap_or(page);
+        for some in lines.chunks(1024) {
             show_some(rt, some)?;
         }
     }
